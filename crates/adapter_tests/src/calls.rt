@@ -1,6 +1,6 @@
 // Calls on an open file, each with what it should answer.
 ghost use Rattle.std.specs.Prelude.{◌≡◌};
-ghost use Rattle.host_files.specs.State.{IsOpen, IsWritable};
+ghost use Rattle.file_traits.specs.State.{IsOpen, IsWritable};
 
 use host_files::{FileId, Files};
 

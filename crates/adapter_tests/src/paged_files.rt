@@ -1,6 +1,6 @@
 // Files that are read by pages, over files in memory.
 ghost use Rattle.std.specs.Prelude.{◌≡◌};
-ghost use Rattle.host_files.specs.State.{IsOpen, IsWritable};
+ghost use Rattle.file_traits.specs.State.{IsOpen, IsWritable};
 
 use crate::calls::{fails, gives_byte, is_cut, takes};
 use crate::checked::holds;

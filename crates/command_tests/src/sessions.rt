@@ -1,6 +1,6 @@
 // A session of a machine with the standard units, whose second teletype has a terminal line.
 ghost use Rattle.std.specs.Prelude.{◌≡◌, List, IfOk, map, take};
-ghost use Rattle.host_files.specs.State.{Opened};
+ghost use Rattle.file_traits.specs.State.{Opened};
 ghost use Rattle.unit_files.specs.Open.{AllOpen};
 ghost use Rattle.unit_trait.specs.Kinds.{all_kinds};
 ghost use Rattle.unit_trait.specs.Row.{initial_unit};

@@ -1,7 +1,7 @@
 -- Counts over two spans.
 use Rattle.std.proofs.Common.{◌≡◌, inl, inr, ℕ, zero, suc, ◌+◌, List, [], ◌∷◌, ◌++◌, refl, ap, sym, ◌∙◌, subst, arith}
 use Rattle.fault_counts.specs.Faults.{raised}
-use Rattle.host_files.specs.State.{FileState}
+use Rattle.file_traits.specs.State.{FileState}
 use Rattle.file_commands.specs.declared.note.FaultNote.{FaultNote}
 use Rattle.whole_files.specs.Claims.{raised_by}
 use Rattle.file_commands.specs.Counts.{noted, openings_noted, RoseBy, AreCounted, AreAll}

@@ -1,8 +1,8 @@
 -- How much the calls of notes can have written.
 use Rattle.std.proofs.Common.{◌≡◌, ◌≤◌, ℕ, Bool, false, List, [], ◌∷◌, ◌++◌, ap, arith, if◌then◌else◌}
 use Rattle.std.specs.List.{AllByRecursion}
-use Rattle.host_files.specs.declared.files.FileCall.{FileCall}
-use Rattle.host_files.specs.declared.files.FileCall.TheVariants.{Opening, Length, Read, Write, SetLength, Closing}
+use Rattle.file_traits.specs.declared.files.FileCall.{FileCall}
+use Rattle.file_traits.specs.declared.files.FileCall.TheVariants.{Opening, Length, Read, Write, SetLength, Closing}
 use Rattle.unit_trait.specs.declared.kind.UnitName.{UnitName}
 use Rattle.unit_files.specs.Attachments.{is_disk}
 use Rattle.unit_files.specs.Buffer.{disk_bytes}

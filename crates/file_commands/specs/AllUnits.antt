@@ -4,10 +4,10 @@
 use Rattle.std.specs.Prelude.{◌≡◌, ℕ, ◌+◌, Bool, false, IsTrue, List, [], ◌∷◌, ◌++◌, drop, length, Option, Some, None, Result, Ok, Err}
 use Rattle.std.specs.List.{AllByRecursion, list_any}
 use Rattle.fault_counts.specs.Faults.{Rose}
-use Rattle.host_files.specs.declared.files.FileId.{FileId}
-use Rattle.host_files.specs.declared.files.FileCall.TheVariants.{Write}
-use Rattle.host_files.specs.Lists.{NamedBytes}
-use Rattle.host_files.specs.State.{FileState}
+use Rattle.file_traits.specs.declared.files.FileId.{FileId}
+use Rattle.file_traits.specs.declared.files.FileCall.TheVariants.{Write}
+use Rattle.file_traits.specs.Lists.{NamedBytes}
+use Rattle.file_traits.specs.State.{FileState}
 use Rattle.unit_trait.specs.declared.kind.Kind.TheVariants.{Dsk, Mta, Lpt, Ptr, Ptp}
 use Rattle.unit_trait.specs.declared.kind.UnitName.{UnitName}
 use Rattle.unit_trait.specs.Kinds.{same_unit}

@@ -1,8 +1,8 @@
 -- The notes that commands on the files of units keep.
 use Rattle.std.specs.Prelude.{◌≡◌, ◌⊎◌, ℕ, Bool, IsTrue, List, [], ◌∷◌, Option, Some, None, Result, Ok, Err}
 use Rattle.fault_counts.specs.Faults.{Rose}
-use Rattle.host_files.specs.declared.files.FileCall.TheVariants.{Opening, Length, Read}
-use Rattle.host_files.specs.State.{FileState}
+use Rattle.file_traits.specs.declared.files.FileCall.TheVariants.{Opening, Length, Read}
+use Rattle.file_traits.specs.State.{FileState}
 use Rattle.unit_trait.specs.declared.kind.UnitName.{UnitName}
 use Rattle.unit_files.specs.declared.faults.UnitFault.{UnitFault}
 use Rattle.unit_files.specs.declared.faults.AttachFault.{AttachFault}

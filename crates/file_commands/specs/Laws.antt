@@ -1,6 +1,6 @@
 -- What holds of the notes of every session, in a reader's words.
 use Rattle.std.specs.Prelude.{◌≡◌, ℕ, List, [], ◌++◌, length, drop}
-use Rattle.host_files.specs.State.{FileState}
+use Rattle.file_traits.specs.State.{FileState}
 use Rattle.file_commands.specs.declared.note.FaultNote.{FaultNote}
 use Rattle.file_commands.specs.Notes.{CommandNote, Note, numbered, handed, Follow}
 use Rattle.file_commands.specs.Counts.{AreCounted}

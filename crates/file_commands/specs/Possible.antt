@@ -1,7 +1,7 @@
 -- How much a call that failed can have written.
 use Rattle.std.specs.Prelude.{◌≡◌, ℕ, ◌≤◌, if◌then◌else◌}
-use Rattle.host_files.specs.declared.files.FileCall.{FileCall}
-use Rattle.host_files.specs.declared.files.FileCall.TheVariants.{Write}
+use Rattle.file_traits.specs.declared.files.FileCall.{FileCall}
+use Rattle.file_traits.specs.declared.files.FileCall.TheVariants.{Write}
 use Rattle.unit_trait.specs.declared.kind.Kind.{Kind}
 use Rattle.unit_files.specs.Attachments.{is_disk}
 use Rattle.unit_files.specs.Buffer.{disk_bytes}

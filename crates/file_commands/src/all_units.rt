@@ -1,5 +1,5 @@
 ghost use Rattle.std.specs.Prelude.{◌≡◌, ◌+◌, ◌≤◌, List, All, IsTrue, IfErr, IsOk, OnErr, length, vec_len, vec_capacity};
-ghost use Rattle.host_files.specs.State.{Opened};
+ghost use Rattle.file_traits.specs.State.{Opened};
 ghost use Rattle.unit_files.specs.Attachments.{takes_attachment, is_disk};
 ghost use Rattle.unit_files.specs.Open.{AllOpen, Around};
 ghost use Rattle.file_commands.specs.OwnFiles.{AreOwn};
@@ -8,7 +8,7 @@ ghost use Rattle.file_commands.specs.AllUnits.{AreApart, AreNoDisk, IsDiskFirst,
 use crate::FaultNote;
 use crate::one_unit::detach_unit;
 use crate::stamp::Stamp;
-use host_files::Files;
+use file_traits::Files;
 use unit_files::{Attached, DetachFault, UnitFault};
 use unit_trait::{Kind, UnitName};
 

@@ -1,4 +1,4 @@
-use host_files::{FileCall, FileId};
+use file_traits::{FileCall, FileId};
 use unit_trait::UnitName;
 
 /// For whom a file is read or written.

@@ -1,6 +1,6 @@
 ghost use Rattle.std.specs.Prelude.{◌≡◌, ◌<◌, ◌≤◌, ◌+◌, ◌++◌, true, false, is_some, List, IsTrue, IfOk, IfSome, OnErr, vec_len, vec_capacity};
-ghost use Rattle.host_files.specs.State.{Opened};
-ghost use Rattle.host_files.specs.Lists.{bytes_of};
+ghost use Rattle.file_traits.specs.State.{Opened};
+ghost use Rattle.file_traits.specs.Lists.{bytes_of};
 ghost use Rattle.unit_files.specs.Attachments.{attachments_of, attachment_at, takes_attachment, longest_file, is_disk, IsFileName};
 ghost use Rattle.unit_files.specs.Acts.{attach_said, attach_files, attached_by, buffer_by, refused_first};
 ghost use Rattle.unit_files.specs.Acts.{detach_said, detached_by, buffer_left, flush_files};
@@ -15,7 +15,7 @@ ghost use Rattle.file_commands.specs.Kept.{IsAttachFault, MissingCause, HoldsNot
 
 use crate::stamp::{Stamp, note_of};
 use crate::{FaultNote, keep};
-use host_files::Files;
+use file_traits::Files;
 use std::alloc::Global;
 use unit_files::{AttachFault, AttachMode, Attached, DetachFault, UnitFault};
 use unit_trait::UnitName;

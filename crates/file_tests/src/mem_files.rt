@@ -1,5 +1,5 @@
 // Files in memory: what is called on them, and what they have then.
-ghost use Rattle.host_files.specs.State.{IsOpen, IsWritable};
+ghost use Rattle.file_traits.specs.State.{IsOpen, IsWritable};
 
 use crate::images::with_file;
 use crate::texts::{equal, holds};

@@ -2,10 +2,10 @@
 use Rattle.std.proofs.Common.{◌≡◌, ℕ, ◌+◌, ◌-◌, ◌≤◌, ◌<◌, List, [], ◌∷◌, ◌++◌, length, take, drop, min, replicate, ap, sym, ◌∙◌, arith, refl, subst}
 use Rattle.std.specs.Prelude.{zero, suc, Result, Bool, true, false, Option, Some, unwrap_or, bytes_eq, if◌then◌else◌}
 use Rattle.std.proofs.lemmas.List.{drop-drop, drop-take, take-take, drop_at, length-append, length-replicate, length-take-le, length-take, length-drop}
-use Rattle.host_files.specs.Lists.{NamedBytes, find_file, bytes_of, changed, filled, overwritten}
-use Rattle.host_files.specs.State.{FileState, Opened, content, name_at}
-use Rattle.host_files.specs.declared.files.WriteFault.{WriteFault}
-use Rattle.host_files.specs.FileCalls.{written_count}
+use Rattle.file_traits.specs.Lists.{NamedBytes, find_file, bytes_of, changed, filled, overwritten}
+use Rattle.file_traits.specs.State.{FileState, Opened, content, name_at}
+use Rattle.file_traits.specs.declared.files.WriteFault.{WriteFault}
+use Rattle.file_traits.specs.FileCalls.{written_count}
 use Rattle.host_adapters.specs.Placed.{IsRead}
 
 -- a part of a page is that part of the file

@@ -4,7 +4,7 @@ use Rattle.std.proofs.Common.{Result, Ok, Err, IfOk, ap, sym, ◌∙◌, subst, 
 use Rattle.std.proofs.lemmas.List.{take_at, drop_at, drop-drop, take-append-le, append_assoc}
 use Rattle.std.proofs.lemmas.List.{length-append, length-replicate, length-take-le}
 use Rattle.std.proofs.Math.Seq.{take-add}
-use Rattle.host_files.specs.Lists.{filled, overwritten}
+use Rattle.file_traits.specs.Lists.{filled, overwritten}
 use Rattle.host_adapters.specs.Placed.{IsRead, Gives}
 
 -- so many bytes stand in the buffer, and a call gives the next ones behind them

@@ -3,10 +3,10 @@ use Rattle.std.specs.Prelude.{ℕ, true, false, IsTrue, [], length, slice_index,
 use Rattle.std.proofs.Common.{subst}
 use Rattle.std.specs.declared.fs.options.OpenOptions.{OpenOptions}
 use Rattle.std.specs.Fs.{new_options, with_read, with_write, with_create, with_truncate}
-use Rattle.host_files.specs.declared.files.OpenMode.{OpenMode}
-use Rattle.host_files.specs.declared.files.OpenMode.TheVariants.{Read, Update, Create}
+use Rattle.file_traits.specs.declared.files.OpenMode.{OpenMode}
+use Rattle.file_traits.specs.declared.files.OpenMode.TheVariants.{Read, Update, Create}
 use Rattle.host_files.specs.OpenTable.{TableState}
-use Rattle.host_files.specs.State.{FileState}
+use Rattle.file_traits.specs.State.{FileState}
 
 -- which are open, how often a call on each has failed, and how often an opening
 pub record RealState : Type 0 where

@@ -1,8 +1,8 @@
 ghost use Rattle.std.specs.Prelude.{◌≡◌, ◌+◌, ◌≤◌, ◌<◌, ℕ, length, drop, IsTrue, IfOk, IfSome};
-ghost use Rattle.host_files.specs.State.{content};
+ghost use Rattle.file_traits.specs.State.{content};
 ghost use Rattle.host_adapters.specs.Placed.{IsRead};
 
-use host_files::{Failed, FileId, Files, OpenFault, OpenMode, OutOfMemory, WriteFault};
+use file_traits::{Failed, FileId, Files, OpenFault, OpenMode, OutOfMemory, WriteFault};
 use std::alloc::Global;
 
 /// How many bytes of a file are read ahead at most.

@@ -1,11 +1,11 @@
 // Reads and writes at a place of an open file.
 ghost use Rattle.std.specs.Prelude.{◌≡◌, ◌+◌, ◌^◌, ◌≤◌, ◌<◌, length, take, drop, IsTrue, IsOk, IfOk, IfErr};
-ghost use Rattle.host_files.specs.Lists.{overwritten};
-ghost use Rattle.host_files.specs.FileCalls.{Reads, written_count};
+ghost use Rattle.file_traits.specs.Lists.{overwritten};
+ghost use Rattle.file_traits.specs.FileCalls.{Reads, written_count};
 ghost use Rattle.host_adapters.specs.Placed.{IsRead, Gives, taken_count};
 
 use crate::retries::{RETRIES, is_tried_again};
-use host_files::WriteFault;
+use file_traits::WriteFault;
 use std::io;
 use std::io::ErrorKind;
 use std::os::unix::fs::FileExt;

@@ -1,11 +1,11 @@
 ghost use Rattle.std.specs.Prelude.{◌≡◌, ◌≤◌, length, IfOk};
 ghost use Rattle.std.specs.Io.KnownBytes.{ReadConsumes};
 ghost use Rattle.fault_counts.specs.Faults.{HasCause, CountsFault};
-ghost use Rattle.host_files.specs.Streams.{LeavesFree};
+ghost use Rattle.file_traits.specs.Streams.{LeavesFree};
 
 use crate::retries::{RETRIES, is_tried_again};
 use fault_counts::raised_count;
-use host_files::{Failed, OutOfMemory, Source};
+use file_traits::{Failed, OutOfMemory, Source};
 use std::alloc::Global;
 use std::io;
 use std::io::{BufReader, Read};

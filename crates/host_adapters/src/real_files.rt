@@ -1,7 +1,7 @@
 ghost use Rattle.std.specs.Prelude.{◌≡◌, ◌≢◌, ◌↔◌, ◌<◌, [], length, string_bytes, IfErr, false};
-ghost use Rattle.host_files.specs.declared.files.OpenFault.TheVariants.{NoFile, OutOfMemory as no_memory};
+ghost use Rattle.file_traits.specs.declared.files.OpenFault.TheVariants.{NoFile, OutOfMemory as no_memory};
 ghost use Rattle.fault_counts.specs.Faults.{raised};
-ghost use Rattle.host_files.specs.FileCalls.{Opens, FailsBehindLast};
+ghost use Rattle.file_traits.specs.FileCalls.{Opens, FailsBehindLast};
 ghost use Rattle.host_adapters.specs.RealFiles.{options_for, untold_state};
 
 use crate::positioned::{read_whole, write_whole};

@@ -1,11 +1,11 @@
 ghost use Rattle.std.specs.Prelude.{◌≡◌, ◌≤◌, length, IfOk};
 ghost use Rattle.std.specs.Io.KnownBytes.{WriteAppends};
 ghost use Rattle.fault_counts.specs.Faults.{HasCause, CountsFault};
-ghost use Rattle.host_files.specs.Streams.{WriteTakes};
+ghost use Rattle.file_traits.specs.Streams.{WriteTakes};
 
 use crate::retries::{RETRIES, is_tried_again};
 use fault_counts::raised_count;
-use host_files::{Failed, Sink};
+use file_traits::{Failed, Sink};
 use std::io;
 use std::io::Write;
 use std::marker::Model;

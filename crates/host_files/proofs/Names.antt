@@ -4,9 +4,9 @@ use Rattle.std.specs.Prelude.{bytes_eq}
 use Rattle.std.proofs.lemmas.List.{map-set, length-map, drop_all}
 use Rattle.std.proofs.lemmas.Option.{slice_get_within, slice_get-map, slice_get-get_or}
 use Rattle.host_files.specs.declared.mem_file.MemFile.{MemFile}
-use Rattle.std.proofs.lemmas.Slice.Eq.{bytes_eq-Decides}
-use Rattle.host_files.specs.Lists.{NamedBytes, find_file, with_file, changed, overwritten, resized}
-use Rattle.host_files.specs.State.{Opened, without}
+use Rattle.file_traits.specs.Lists.{NamedBytes, find_file, with_file, changed, overwritten, resized}
+use Rattle.file_traits.specs.State.{Opened, without}
+use Rattle.file_traits.proofs.Changes.{test-same}
 use Rattle.host_files.specs.MemFiles.{HasPlace, named_of, are_there}
 
 pub place-first : (f : NamedBytes) (rest : List NamedBytes) (name : List ℕ) → bytes_eq f.0 name ≡ true → HasPlace (f ∷ rest) name 0
@@ -85,20 +85,7 @@ there-without files (o ∷ rest) file all =
     by-test files o rest file true first all later = all
     by-test files o rest file false first all later = ap (λ (c : Bool). c && are_there files (without rest file)) first ∙ later
 
--- a step that changes nothing
-pub changed-same : (files : List NamedBytes) (name : List ℕ) (step : List ℕ → List ℕ) → ((bytes : List ℕ) → step bytes ≡ bytes) → changed files name step ≡ files
-changed-same [] name step same = refl
-changed-same (f ∷ rest) name step same = by-test f rest name step (bytes_eq f.0 name) (same f.1) (changed-same rest name step same)
-  where
-    by-test : (f : NamedBytes) (rest : List NamedBytes) (name : List ℕ) (step : List ℕ → List ℕ) (b : Bool) → step f.1 ≡ f.1 → changed rest name step ≡ rest
-        → (if b then (f.0, step f.1) ∷ rest else f ∷ changed rest name step) ≡ f ∷ rest
-    by-test f rest name step true here later = ap (λ (bytes : List ℕ). (f.0, bytes) ∷ rest) here
-    by-test f rest name step false here later = ap (λ (xs : List NamedBytes). f ∷ xs) later
-
 -- ---- a file more
-
-pub test-same : (name : List ℕ) → bytes_eq name name ≡ true
-test-same name = (bytes_eq-Decides name name).1 refl
 
 pub with-new : (files : List NamedBytes) (name bytes : List ℕ) → find_file files name ≡ None → with_file files name bytes ≡ files ++ (name, bytes) ∷ []
 with-new [] name bytes none = refl

@@ -1,31 +1,12 @@
 -- A table of open files: places, ids that were given, and counts.
-use Rattle.std.proofs.Common.{inl, inr, IsSome, ◌&&◌, ◌≡◌, ◌≢◌, ℕ, zero, suc, ◌+◌, ◌<◌, ◌≤◌, ◌==◌, Bool, true, false, List, [], ◌∷◌, map, Some, None, nat_lt, refl, ap, sym, ◌∙◌, subst, arith, if◌then◌else◌}
+use Rattle.std.proofs.Common.{inl, inr, IsSome, ◌≡◌, ◌≢◌, ℕ, zero, suc, ◌+◌, ◌<◌, ◌≤◌, true, List, [], ◌∷◌, map, None, nat_lt, refl, ap, sym, ◌∙◌, subst, arith}
 use Rattle.std.specs.List.{remove}
 use Rattle.std.proofs.lemmas.Bool.{cases_lt, cases_eq}
 use Rattle.std.proofs.lemmas.Bool.Decides.{nat_tests}
-use Rattle.host_files.specs.State.{Opened, opened_at, without}
+use Rattle.file_traits.specs.State.{Opened, opened_at, without}
 use Rattle.host_files.specs.OpenTable.{StandsAt, all_given}
 use Rattle.host_files.proofs.Names.{both}
-
-pub test-is : (m n : ℕ) → m ≡ n → (m == n) ≡ true
-test-is m n same = grind (arith, nat_tests)
-
-pub test-not : (m n : ℕ) → m ≢ n → (m == n) ≡ false
-test-not m n other = grind (arith, nat_tests)
-
--- an id that stands at the front
-pub front-found : (o : Opened) (rest : List Opened) (file : ℕ) → o.file ≡ file → opened_at (o ∷ rest) file ≡ Some o
-front-found o rest file is = ap (λ (b : Bool). if b then Some o else opened_at rest file) (test-is o.file file is)
-
-pub front-out : (o : Opened) (rest : List Opened) (file : ℕ) → o.file ≡ file → without (o ∷ rest) file ≡ rest
-front-out o rest file is = ap (λ (b : Bool). if b then rest else o ∷ without rest file) (test-is o.file file is)
-
--- one that does not
-pub front-passed : (o : Opened) (rest : List Opened) (file : ℕ) → o.file ≢ file → opened_at (o ∷ rest) file ≡ opened_at rest file
-front-passed o rest file other = ap (λ (b : Bool). if b then Some o else opened_at rest file) (test-not o.file file other)
-
-pub front-kept : (o : Opened) (rest : List Opened) (file : ℕ) → o.file ≢ file → without (o ∷ rest) file ≡ o ∷ without rest file
-front-kept o rest file other = ap (λ (b : Bool). if b then rest else o ∷ without rest file) (test-not o.file file other)
+use Rattle.file_traits.proofs.Fronts.{front-found, front-out, front-passed, front-kept, both-and}
 
 -- an id stands one place further behind another one
 pub stands-further : (o : Opened) (rest : List Opened) (file place : ℕ) → o.file ≢ file → StandsAt rest file place → StandsAt (o ∷ rest) file (place + 1)
@@ -46,9 +27,6 @@ stands-first o rest file is = record {
 }
 
 -- ---- ids that were given
-
-pub both-and : (a b : Bool) → a ≡ true → b ≡ true → (a && b) ≡ true
-both-and a b first second = ap (λ (x : Bool). x && b) first ∙ second
 
 below : (m n : ℕ) → nat_lt m n ≡ true → m < n
 below m n less = grind (arith, nat_tests)

@@ -1,7 +1,7 @@
 -- A list of bytes in memory: its bytes, how many it has room for, and which calls on it are to fail.
 use Rattle.std.specs.Prelude.{ℕ, List, [], None}
 use Rattle.host_files.specs.MemFiles.{FailingState}
-use Rattle.host_files.specs.OneList.{Behind}
+use Rattle.file_traits.specs.OneList.{Behind}
 
 pub record ListState : Type 0 where
   pub bytes : List ℕ

@@ -2,12 +2,12 @@
 use Rattle.std.specs.Prelude.{◌≡◌, ℕ, ◌<◌, ◌≤◌, ◌==◌, ◌||◌, ◌&&◌, ◌-◌, nat_le, min, Result, Ok, Err, Bool, true, false, List, [], ◌∷◌, ◌++◌, length, slice_get, slice_set, nat_lt, vec_len, vec_capacity, Option, Some, None, is_some, slice_index, string_bytes, if◌then◌else◌}
 use Rattle.fault_counts.specs.Faults.{raised}
 use Rattle.host_files.specs.declared.mem_file.MemFile.{MemFile}
-use Rattle.host_files.specs.declared.files.FileId.{FileId}
-use Rattle.host_files.specs.declared.files.OpenFault.{OpenFault}
-use Rattle.host_files.specs.declared.files.OpenFault.TheVariants.{NoFile, Failed, OutOfMemory}
-use Rattle.host_files.specs.declared.files.WriteFault.{WriteFault}
-use Rattle.host_files.specs.Lists.{NamedBytes, find_file, with_file, changed}
-use Rattle.host_files.specs.State.{Opened, FileState}
+use Rattle.file_traits.specs.declared.files.FileId.{FileId}
+use Rattle.file_traits.specs.declared.files.OpenFault.{OpenFault}
+use Rattle.file_traits.specs.declared.files.OpenFault.TheVariants.{NoFile, Failed, OutOfMemory}
+use Rattle.file_traits.specs.declared.files.WriteFault.{WriteFault}
+use Rattle.file_traits.specs.Lists.{NamedBytes, find_file, with_file, changed}
+use Rattle.file_traits.specs.State.{Opened, FileState}
 use Rattle.host_files.specs.OpenTable.{TableState}
 
 -- how many calls were made, and the numbers of those that are to fail, each with how many bytes its write writes

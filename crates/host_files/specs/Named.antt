@@ -1,8 +1,8 @@
 -- An open id of files in memory stands for a name that is there.
 use Rattle.std.specs.Prelude.{◌≡◌, ℕ, ◌==◌, ◌&&◌, Bool, true, false, List, [], ◌∷◌, Option, Some, IsSome, is_some, option_map, unwrap_or, if◌then◌else◌}
 use Rattle.std.proofs.Common.{subst, refl}
-use Rattle.host_files.specs.Lists.{NamedBytes, find_file}
-use Rattle.host_files.specs.State.{Opened, opened_at, name_at, IsOpen, IsNamed}
+use Rattle.file_traits.specs.Lists.{NamedBytes, find_file}
+use Rattle.file_traits.specs.State.{Opened, opened_at, name_at, IsOpen, IsNamed}
 use Rattle.host_files.specs.MemFiles.{MemState, are_there, told_state}
 
 abbrev Where : Bool → Type 0 → Type 0

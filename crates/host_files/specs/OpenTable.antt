@@ -2,7 +2,7 @@
 use Rattle.std.specs.Prelude.{◌≡◌, ℕ, ◌<◌, length, slice_get, Bool, true, ◌&&◌, List, [], ◌∷◌, nat_lt, string_bytes}
 use Rattle.host_files.specs.declared.open_table.Entry.{Entry}
 use Rattle.std.specs.List.{remove}
-use Rattle.host_files.specs.State.{Opened, opened_at, without}
+use Rattle.file_traits.specs.State.{Opened, opened_at, without}
 
 pub record TableState : Type 0 where
   pub opened : List Opened

@@ -1,19 +1,17 @@
 ghost use Rattle.std.specs.Prelude.{◌≡◌, ◌+◌, ◌-◌, ◌≤◌, ◌↔◌, ◌||◌, true, false, nat_lt, is_some, length, take, IsTrue, IsSome, IsErr, IfOk, IfErr, OnOk, OnErr};
 ghost use Rattle.fault_counts.specs.Faults.{CountsFault};
-ghost use Rattle.host_files.specs.Lists.{overwritten, resized};
-ghost use Rattle.host_files.specs.FileCalls.{Reads, written_count};
+ghost use Rattle.file_traits.specs.Lists.{overwritten, resized};
+ghost use Rattle.file_traits.specs.FileCalls.{Reads, written_count};
 ghost use Rattle.host_files.specs.MemFiles.{no_failing, next_fails, with_failing, begun, has_room, piece_result};
-ghost use Rattle.host_files.specs.OneList.{longest_list, shown};
-ghost use Rattle.host_files.specs.Streams.{LeavesFree};
+ghost use Rattle.file_traits.specs.OneList.{longest_list, shown};
+ghost use Rattle.file_traits.specs.Streams.{LeavesFree};
 ghost use Rattle.host_files.specs.ByteList.{nothing_behind};
 
 use crate::failing::Failing;
-use crate::files::WriteFault;
 use crate::mem_file::{read_from, resize_to, write_into};
 use crate::mem_files::AddFault;
-use crate::one_list::Bytes;
-use crate::streams::Failed;
 use fault_counts::raised_count;
+use file_traits::{Bytes, Failed, WriteFault};
 use std::alloc::{AllocError as OutOfMemory, Global};
 use std::marker::Model;
 
@@ -28,7 +26,7 @@ pub struct ByteList {
 
 impl Model for ByteList {
     ghost use Rattle.std.specs.Prelude.{◌≤◌, vec_len, vec_capacity};
-    ghost use Rattle.host_files.specs.OneList.{longest_list};
+    ghost use Rattle.file_traits.specs.OneList.{longest_list};
     ghost use Rattle.host_files.specs.ByteList.{ListState};
 
     ghost Value = { ListState };

@@ -1,11 +1,11 @@
 ghost use Rattle.std.specs.Prelude.{◌≡◌, [], IfOk, OnOk, OnErr};
 ghost use Rattle.fault_counts.specs.Faults.{HasCause, CountsFault};
-ghost use Rattle.host_files.specs.Streams.{WriteTakes, WriteAdds};
+ghost use Rattle.file_traits.specs.Streams.{WriteTakes, WriteAdds};
 ghost use Rattle.host_files.specs.Calls.{no_calls, with_named};
 ghost use Rattle.host_files.specs.ByteSink.{SinkWrites};
 
 use crate::calls::Calls;
-use crate::streams::{Failed, Sink};
+use file_traits::{Failed, Sink};
 use std::alloc::{AllocError as OutOfMemory, Global};
 use std::marker::Model;
 

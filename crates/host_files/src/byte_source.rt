@@ -1,11 +1,11 @@
 ghost use Rattle.std.specs.Prelude.{◌≡◌, ◌≤◌, length, IsTrue, IfOk, OnOk, OnErr};
 ghost use Rattle.fault_counts.specs.Faults.{HasCause, CountsFault};
-ghost use Rattle.host_files.specs.Streams.{ReadTakes, LeavesFree};
+ghost use Rattle.file_traits.specs.Streams.{ReadTakes, LeavesFree};
 ghost use Rattle.host_files.specs.Calls.{no_calls, with_named};
 ghost use Rattle.host_files.specs.ByteSource.{SourceReads};
 
 use crate::calls::Calls;
-use crate::streams::{Failed, Source};
+use file_traits::{Failed, Source};
 use std::alloc::{AllocError as OutOfMemory, Global};
 use std::marker::Model;
 

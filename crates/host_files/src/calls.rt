@@ -2,8 +2,8 @@ ghost use Rattle.std.specs.Prelude.{◌≡◌, ◌≤◌, true, false, MatchResu
 ghost use Rattle.host_files.specs.Calls.{no_calls, next_fails, with_named, after_success, after_fault};
 ghost use Rattle.fault_counts.specs.Faults.{raised, HasCause, CountsFault};
 
-use crate::streams::Failed;
 use fault_counts::raised_count;
+use file_traits::Failed;
 use std::alloc::{AllocError as OutOfMemory, Global};
 use std::marker::Model;
 

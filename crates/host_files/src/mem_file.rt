@@ -1,7 +1,7 @@
 ghost use Rattle.std.specs.Prelude.{◌≡◌, ℕ, List, true, [], ◌∷◌, IfOk, OnOk, OnErr, ◌≤◌, ◌<◌, ◌+◌, ◌-◌, ◌++◌, length, map, take, drop, replicate, min, max, vec_len, vec_capacity, All, MatchOption, None, bytes_eq};
-ghost use Rattle.host_files.specs.Lists.{find_file, changed, overwritten, resized};
+ghost use Rattle.file_traits.specs.Lists.{find_file, changed, overwritten, resized};
 ghost use Rattle.host_files.specs.MemFiles.{named_of, are_there, HasPlace, HasRoom};
-ghost use Rattle.host_files.specs.State.{Opened};
+ghost use Rattle.file_traits.specs.State.{Opened};
 
 use std::alloc::{AllocError, Global};
 

@@ -1,20 +1,19 @@
 ghost use Rattle.std.specs.Prelude.{ℕ, ◌≡◌, ◌≢◌, ◌<◌, ◌≤◌, ◌↔◌, ◌||◌, nat_lt, is_some, take, option_map, IfSome, IfErr, IsErr, Err, [], ◌∷◌, ◌++◌, map, length, All, IsTrue, IsSome, IfOk, OnOk, OnErr, None, Some, true, false};
-ghost use Rattle.host_files.specs.declared.files.OpenMode.TheVariants.{Create};
-ghost use Rattle.host_files.specs.Lists.{find_file, with_file, changed, overwritten, resized};
-ghost use Rattle.host_files.specs.State.{IsOpen, IsWritable, content, name_at, opened_at, without};
-ghost use Rattle.host_files.specs.FileCalls.{Counted, Opens, Reads, opening_count, written_count, FailsBehindLast};
+ghost use Rattle.file_traits.specs.declared.files.OpenMode.TheVariants.{Create};
+ghost use Rattle.file_traits.specs.Lists.{find_file, with_file, changed, overwritten, resized};
+ghost use Rattle.file_traits.specs.State.{IsOpen, IsWritable, content, name_at, opened_at, without};
+ghost use Rattle.file_traits.specs.FileCalls.{Counted, Opens, Reads, opening_count, written_count, FailsBehindLast};
 ghost use Rattle.host_files.specs.MemFiles.{MemState, are_there, HasRoom, named_of, told_state, next_fails, begun, with_failing, opening_failed, opening_fails, has_room, write_result};
 ghost use Rattle.host_files.specs.Named.{there_named};
-ghost use Rattle.host_files.specs.Streams.{LeavesFree};
+ghost use Rattle.file_traits.specs.Streams.{LeavesFree};
 
 use crate::failing::Failing;
-use crate::files::{FileId, Files, OpenFault, OpenMode, WriteFault};
 use crate::mem_file::{
     MemFile, filled_file, new_file, place_of_name, push_file, read_from, resize_file, write_file,
 };
 use crate::open_table::OpenTable;
-use crate::streams::Failed;
 use fault_counts::raised_count;
+use file_traits::{Failed, FileId, Files, OpenFault, OpenMode, WriteFault};
 use std::alloc::{AllocError, Global};
 
 /// Files in memory, each with room for so many bytes. Calls are numbered from 0, and those that were named fail.

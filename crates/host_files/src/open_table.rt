@@ -1,10 +1,10 @@
 ghost use Rattle.std.specs.Prelude.{◌≡◌, ◌≢◌, ◌↔◌, ℕ, ◌≤◌, ◌<◌, [], ◌∷◌, ◌++◌, length, slice_index, string_bytes, nat_le, IsSome, None, IfOk, OnOk, OnErr, map, MatchOption};
 ghost use Rattle.fault_counts.specs.Faults.{raised};
-ghost use Rattle.host_files.specs.State.{opened_at, name_at, without};
+ghost use Rattle.file_traits.specs.State.{opened_at, name_at, without};
 ghost use Rattle.host_files.specs.OpenTable.{opened_of, StandsAt};
 
-use crate::files::{FileId, OpenMode};
 use fault_counts::raised_count;
+use file_traits::{FileId, OpenMode};
 use std::alloc::{AllocError, Global};
 use std::marker::Model;
 

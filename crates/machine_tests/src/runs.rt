@@ -1,6 +1,6 @@
 // Runs of a machine with a console, worked out by hand.
 use crate::machines::{Units, all};
-use nova_machine::laws;
+use machine_laws::laws;
 use std::test::Fail;
 
 /// Any other register is as before, and the console takes no byte.

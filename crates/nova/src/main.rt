@@ -9,9 +9,9 @@ ghost use Rattle.unit_trait.specs.declared.kind.Kind.TheVariants.{Ptp as punches
 ghost use Rattle.unit_trait.specs.declared.kind.Kind.TheVariants.{Tto as teleprinters};
 ghost use Rattle.unit_trait.specs.declared.kind.Kind.TheVariants.{Tti1 as second_keyboards, Tto1 as second_printers};
 ghost use Rattle.unit_trait.specs.Row.{initial_unit};
-ghost use Rattle.nova_top.specs.Standard.{IsStandard};
+ghost use Rattle.command_words.specs.Standard.{IsStandard};
 ghost use Rattle.std.specs.Process.{exit_status};
-ghost use Rattle.nova_top.specs.Words.{options_of, texts_of};
+ghost use Rattle.command_words.specs.Words.{options_of, texts_of};
 
 mod boxes;
 mod session;
@@ -20,8 +20,8 @@ mod words;
 use boxes::{four, push_four, push_two, two};
 use clock_unit::Clk;
 use disk_unit::Dsk;
+use file_traits::{Files, Sink, Source};
 use host_adapters::{PagedFiles, ReaderSource, RealFiles, RealLines, WriterSink};
-use host_files::{Files, Sink, Source};
 use observations::ExitStatus;
 use paper_tape::{Lpt, Ptp, Ptr};
 use session::session;

@@ -3,14 +3,14 @@ ghost use Rattle.std.specs.Process.{exit_status};
 ghost use Rattle.fault_counts.specs.Faults.{Rose};
 ghost use Rattle.host_lines.specs.Traffic.{Answer as LineAnswer};
 ghost use Rattle.host_lines.specs.Told.{IsFirst, record_in};
-ghost use Rattle.scp_commands.specs.Live.{beyond};
-ghost use Rattle.nova_top.specs.Standard.{IsStandard};
-ghost use Rattle.nova_top.specs.Words.{options_of, texts_of};
+ghost use Rattle.command_session.specs.Live.{beyond};
+ghost use Rattle.command_words.specs.Standard.{IsStandard};
+ghost use Rattle.command_words.specs.Words.{options_of, texts_of};
 ghost use Rattle.nova_top.specs.Ends.{IsOutcome, IsCutShort, StatusCause, IsComplete, NoneFailed, KeptUnwritten};
 ghost use Rattle.nova_top.specs.Ends.{LinesAtEnd, HasWorkload, InputTells};
 ghost use Rattle.nova.specs.Ends.{OfSomeEnd, OfSomeFaults, OfSomeMachine};
 
-use host_files::{Files, Sink, Source};
+use file_traits::{Files, Sink, Source};
 use host_lines::Lines;
 use nova_top::simulate;
 use std::alloc::Global;

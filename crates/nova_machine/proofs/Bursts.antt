@@ -18,7 +18,7 @@ use Rattle.host_lines.specs.State.{LineState}
 use Rattle.nova_machine.specs.declared.machine.Stop.TheVariants.{ChainLimit}
 use Rattle.nova_processor.specs.Processor.{ProcessorState}
 use Rattle.nova_machine.specs.Machine.{MachineState}
-use Rattle.host_files.specs.Lists.{NamedBytes}
+use Rattle.file_traits.specs.Lists.{NamedBytes}
 use Rattle.nova_machine.specs.Notes.{UnitNote, RunNote, at_time}
 use Rattle.nova_machine.specs.Seen.{Seen, seen, beside, erased, with_machine}
 use Rattle.nova_machine.specs.Parts.{Part, silent, then_part}

@@ -21,8 +21,8 @@ use Rattle.unit_list.specs.Bus.{AllFit, unit_at, row_or_nothing, row_at}
 use Rattle.unit_trait.proofs.Ranges.{held-within, rest-within}
 use Rattle.unit_list.proofs.Calls.{found-fits}
 use Rattle.unit_list.proofs.Room.{kind-found}
-use Rattle.host_files.specs.Lists.{NamedBytes}
-use Rattle.host_files.specs.declared.files.FileCall.TheVariants.{Write}
+use Rattle.file_traits.specs.Lists.{NamedBytes}
+use Rattle.file_traits.specs.declared.files.FileCall.TheVariants.{Write}
 use Rattle.unit_trait.specs.declared.kind.UnitName.{UnitName}
 use Rattle.unit_trait.proofs.EveryKind.{every-kind}
 use Rattle.unit_files.specs.declared.faults.ByteAnswer.{ByteAnswer}

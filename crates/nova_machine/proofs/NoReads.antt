@@ -17,7 +17,7 @@ use Rattle.nova_machine.specs.OnLines.{Lined, sends}
 use Rattle.nova_machine.specs.Service.{want_at, key_at, asked, replied, hosted, own_service, behind_line, line_service, service, taken}
 use Rattle.nova_machine.specs.Turn.{breaks_tested}
 use Rattle.nova_machine.specs.Run.{run}
-use Rattle.nova_machine.specs.Tapes.{NoAnswer}
+use Rattle.memory_transfer.specs.Tapes.{NoAnswer}
 use Rattle.nova_machine.proofs.Walks.{OfRuns, walk-run}
 use Rattle.nova_machine.proofs.EachService.{each-service, sends-reads}
 

@@ -2,10 +2,10 @@
 use Rattle.std.proofs.Common.{◌≡◌, ℕ, ◌==◌, ◌&&◌, Bool, true, false, IsTrue, inl, inr, List, Option, Some, None, Result, Ok, Err, refl, ap, sym, ◌∙◌, eq-eqb, if◌then◌else◌}
 use Rattle.std.proofs.Math.Path.{fun_ext}
 use Rattle.std.proofs.lemmas.Bool.{eqb-true}
-use Rattle.host_files.specs.Lists.{NamedBytes, bytes_of, changed}
-use Rattle.host_files.specs.State.{Opened, FileState, name_at}
-use Rattle.host_files.specs.declared.files.FileId.{FileId}
-use Rattle.host_files.specs.OneList.{ChangesOnly, shown}
+use Rattle.file_traits.specs.Lists.{NamedBytes, bytes_of, changed}
+use Rattle.file_traits.specs.State.{Opened, FileState, name_at}
+use Rattle.file_traits.specs.declared.files.FileId.{FileId}
+use Rattle.file_traits.specs.OneList.{ChangesOnly, shown}
 use Rattle.nova_memory.specs.Memory.{MemoryState}
 use Rattle.unit_trait.specs.declared.kind.UnitName.{UnitName}
 use Rattle.unit_trait.specs.declared.calls.TapeOrder.{TapeOrder}
@@ -16,11 +16,13 @@ use Rattle.unit_files.specs.Causes.{IsQuiet}
 use Rattle.unit_files.specs.Open.{AllOpen}
 use Rattle.unit_files.specs.View.{HoldsFile}
 use Rattle.unit_files.proofs.Opened.{file-of}
-use Rattle.nova_machine.specs.declared.tape.TapeStop.{TapeStop}
-use Rattle.nova_machine.specs.declared.tape.TapeStop.TheVariants.{Image, Call}
+use Rattle.memory_transfer.specs.declared.tape.TapeStop.{TapeStop}
+use Rattle.memory_transfer.specs.declared.tape.TapeStop.TheVariants.{Image, Call}
 use Rattle.nova_machine.specs.Comes.{AreTold}
-use Rattle.nova_machine.specs.Tapes.{writes_tape, image_of, operation, tape_answer, tape_memory, tape_files, memory_operated, image_operated}
-use Rattle.nova_machine.specs.Operated.{operated, failure_of, CountsStop, StopCause}
+use Rattle.memory_transfer.specs.Tapes.{writes_tape, operation, memory_operated, image_operated}
+use Rattle.nova_machine.specs.Drives.{image_of, tape_answer, tape_memory, tape_files}
+use Rattle.memory_transfer.specs.Operated.{operated, failure_of, CountsStop}
+use Rattle.nova_machine.specs.DriveCauses.{StopCause}
 use Rattle.nova_machine.proofs.Hosting.{free-none}
 
 quiet : (file : ℕ) (old new : FileState) → ChangesOnly file old new → new.faults file ≡ old.faults file → IsQuiet old new

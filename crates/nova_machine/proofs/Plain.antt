@@ -3,7 +3,7 @@ use Rattle.std.proofs.Common.{◌≡◌, ℕ, Bool, false, List, Option, None, o
 use Rattle.host_lines.specs.Traffic.{Answer}
 use Rattle.host_lines.specs.State.{LineState}
 use Rattle.nova_machine.specs.Machine.{MachineState}
-use Rattle.host_files.specs.Lists.{NamedBytes}
+use Rattle.file_traits.specs.Lists.{NamedBytes}
 use Rattle.nova_machine.specs.Notes.{UnitNote}
 use Rattle.nova_machine.specs.Seen.{Seen, seen, beside, erased, with_machine}
 use Rattle.nova_machine.specs.Parts.{Part, silent, then_part}

@@ -1,7 +1,7 @@
 -- Counts of faults over several calls.
 use Rattle.std.proofs.Common.{◌≡◌, ℕ, Bool, List, ap, sym, subst, ◌∙◌, Option, Some, None, refl}
 use Rattle.fault_counts.specs.Faults.{raised}
-use Rattle.host_files.specs.State.{FileState}
+use Rattle.file_traits.specs.State.{FileState}
 use Rattle.unit_files.specs.Attachments.{Held}
 use Rattle.unit_files.specs.Causes.{IsQuiet, IsFaultOf}
 use Rattle.nova_machine.specs.declared.machine.Stop.{Stop}

@@ -15,7 +15,7 @@ use Rattle.nova_machine.specs.Parts.{Part, silent, then_part}
 use Rattle.nova_machine.specs.Turn.{turn}
 use Rattle.nova_machine.specs.Run.{next_turn, turns, expired, last_time}
 use Rattle.nova_machine.specs.Bursts.{Bursts}
-use Rattle.host_files.specs.Lists.{NamedBytes}
+use Rattle.file_traits.specs.Lists.{NamedBytes}
 use Rattle.nova_machine.specs.Comes.{Output, Comes, IsOwn}
 use Rattle.nova_machine.proofs.Parts.{silent-comes, comes-then, comes-stopped}
 use Rattle.nova_machine.proofs.Opened.{turns-none, turns-some, turns-stop, next-early, next-late}

@@ -48,7 +48,8 @@ use Rattle.nova_machine.specs.OnLines.{IsOfLine}
 use Rattle.nova_machine.specs.Service.{want_at, asked, answered}
 use Rattle.nova_machine.specs.Hosting.{CanBeHosted, hosted_of, bytes_printed, watch_behind}
 use Rattle.nova_machine.specs.Wants.{first_key, typed_key, wru, key_stop, own_stop, watch_after, taken_after, bytes_of, stop_by}
-use Rattle.nova_machine.specs.StopCauses.{IsThere, stop_ioe_number, StopIoeHasItsName, StopsForFile, IsFull, IsAtFileEnd, IsWithoutFile, IsGotOf, IsPastRoom, IsOfTape, IsMadeOf, Moment, moment_of, AreCountedDown, all_printed, NoneMatches, LastMatches, Matches, Watches, TookWru, ServiceCause}
+use Rattle.nova_machine.specs.StopCauses.{IsThere, stop_ioe_number, StopsForFile, IsFull, IsAtFileEnd, IsWithoutFile, IsGotOf, IsPastRoom, IsMadeOf, Moment, moment_of, AreCountedDown, all_printed, NoneMatches, LastMatches, Matches, Watches, TookWru, ServiceCause}
+use Rattle.memory_transfer.specs.Operated.{IsOfTape}
 use Rattle.nova_machine.proofs.Causes.{counted-same, IsNoMatch, matches-none}
 
 -- ---- a unit that stops has STOP_IOE on, and was told of an end, or that it has no file
@@ -577,13 +578,3 @@ pub tape-made : (g : Got) (a : Option Attachment) → IsThere a → IsOfTape (Ok
 tape-made (got.Tape tape) a there of = there
 tape-made got.Done a there of = tt
 tape-made g a there of = absurd of
-
--- ---- STOP_IOE
-
-pub stop-ioe-named : StopIoeHasItsName
-stop-ioe-named Dsk takes = refl
-stop-ioe-named Mta takes = refl
-stop-ioe-named Lpt takes = refl
-stop-ioe-named Ptr takes = refl
-stop-ioe-named Ptp takes = refl
-stop-ioe-named kind takes = absurd (cc)

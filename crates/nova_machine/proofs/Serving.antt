@@ -1,7 +1,7 @@
 -- Services, one behind another: what is left of them comes to what they all come to.
 use Rattle.std.specs.List.{list_any}
 use Rattle.std.proofs.lemmas.Bool.Decides.{nat_tests}
-use Rattle.host_files.specs.Lists.{NamedBytes}
+use Rattle.file_traits.specs.Lists.{NamedBytes}
 use Rattle.host_lines.specs.declared.lines.Sent.{Sent}
 use Rattle.host_lines.specs.Traffic.{Peer, Answer, Ahead}
 use Rattle.host_lines.specs.Told.{ahead_of, heard_more}
@@ -48,7 +48,7 @@ use Rattle.nova_machine.specs.LineChanges.{heard_with, DoneOnLine}
 use Rattle.nova_machine.specs.OnLines.{Lined, lined, sends}
 use Rattle.nova_machine.proofs.Hearing.{heard-nothing, heard-sends}
 use Rattle.nova_machine.proofs.Parts.{silent-comes, comes-behind, comes-then, comes-stopped}
-use Rattle.nova_machine.specs.Tapes.{NoAnswer, FileFails, ImageIsBad}
+use Rattle.memory_transfer.specs.Tapes.{NoAnswer, FileFails, ImageIsBad}
 use Rattle.nova_memory.specs.Memory.{MemoryState}
 use Rattle.nova_machine.proofs.Opened.{serving-is, services-none, services-some}
 use Rattle.unit_trait.proofs.Codes.{same-self}

@@ -6,7 +6,7 @@ use Rattle.expect_actions.specs.KeysFile.{due_key}
 use Rattle.expect_actions.specs.Watch.{WatchState}
 use Rattle.nova_processor.specs.declared.burst.BurstEnd.{BurstEnd}
 use Rattle.nova_processor.specs.declared.burst.BurstEnd.TheVariants as burst_end
-use Rattle.host_files.specs.declared.files.FileId.{FileId}
+use Rattle.file_traits.specs.declared.files.FileId.{FileId}
 use Rattle.unit_files.specs.Attachments.{Attachment, Held, attachments_of, attachment_at, read_only_of, read_only_at}
 use Rattle.unit_files.specs.declared.faults.ByteAnswer.{ByteAnswer}
 use Rattle.unit_files.specs.declared.faults.ByteAnswer.TheVariants as byte
@@ -34,8 +34,8 @@ use Rattle.nova_machine.specs.Service.{want_at, asked, answered}
 use Rattle.nova_machine.specs.Seen.{attached_in}
 use Rattle.nova_machine.specs.Wants.{first_key, typed_key, key_stop, answer_to}
 use Rattle.nova_machine.specs.Hosting.{hosted_of}
-use Rattle.nova_machine.specs.Tapes.{writes_tape}
-use Rattle.nova_machine.specs.StopCauses.{IsOfTape}
+use Rattle.memory_transfer.specs.Tapes.{writes_tape}
+use Rattle.memory_transfer.specs.Operated.{IsOfTape}
 use Rattle.nova_machine.specs.Looks.{keyboard, looked_at}
 use Rattle.nova_machine.specs.LineLooks.{second_keyboard, first_looked, LookAgain, AreLooking, IsKeylessNow}
 use Rattle.nova_machine.specs.Bursts.{Bursts}

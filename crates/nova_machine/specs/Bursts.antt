@@ -8,7 +8,7 @@ use Rattle.nova_processor.specs.declared.burst.BurstEnd.TheVariants as burst_end
 use Rattle.expect_actions.specs.Watch.{WatchState}
 use Rattle.nova_machine.specs.declared.machine.Stop.TheVariants.{ChainLimit}
 use Rattle.nova_machine.specs.Machine.{MachineState}
-use Rattle.host_files.specs.Lists.{NamedBytes}
+use Rattle.file_traits.specs.Lists.{NamedBytes}
 use Rattle.host_lines.specs.Traffic.{Answer}
 use Rattle.host_lines.specs.State.{LineState}
 use Rattle.nova_machine.specs.Notes.{RunNote}

@@ -7,7 +7,7 @@ use Rattle.observations.specs.Observations.{text_of, sent_of, StandsAt}
 use Rattle.observations.specs.Cut.{BreaksOff}
 use Rattle.host_lines.specs.Traffic.{Answer}
 use Rattle.host_lines.specs.Told.{Heard, IsFirst, record_in}
-use Rattle.host_files.specs.State.{FileState}
+use Rattle.file_traits.specs.State.{FileState}
 use Rattle.unit_files.specs.Attachments.{Held}
 use Rattle.unit_files.specs.Causes.{IsQuiet, IsFaultOf}
 use Rattle.nova_machine.specs.declared.machine.Stop.{Stop}

@@ -1,11 +1,11 @@
 -- What the machine's own answers mean that it makes of what a unit wants.
 use Rattle.std.specs.Prelude.{◌≡◌, ℕ, ◌<◌, ◌≤◌, ◌^◌, IsTrue, ◌==◌, List, [], Option, Some, None, Ok, Err, if◌then◌else◌}
-use Rattle.host_files.specs.Lists.{NamedBytes}
+use Rattle.file_traits.specs.Lists.{NamedBytes}
 use Rattle.unit_trait.specs.declared.kind.Kind.{Kind}
 use Rattle.unit_trait.specs.declared.kind.UnitName.{UnitName}
 use Rattle.unit_trait.specs.declared.kind.Kind.TheVariants.{Dsk}
 use Rattle.unit_list.specs.Bus.{IsBelowEnd}
-use Rattle.host_files.specs.OneList.{longest_list}
+use Rattle.file_traits.specs.OneList.{longest_list}
 use Rattle.unit_trait.specs.declared.calls.TapeOrder.{TapeOrder}
 use Rattle.unit_trait.specs.declared.calls.Want.{Want}
 use Rattle.unit_trait.specs.declared.calls.Want.TheVariants as want
@@ -19,7 +19,7 @@ use Rattle.nova_machine.specs.declared.machine.Stop.{Stop}
 use Rattle.nova_machine.specs.declared.machine.Stop.TheVariants.{BadImage, FileFault, ConsoleFault, Wru as WruStop, Expect}
 use Rattle.nova_machine.specs.declared.service.Hosted.{Hosted}
 use Rattle.nova_machine.specs.declared.service.Hosted.TheVariants.{Gets, Wru, Matched, Stops}
-use Rattle.nova_machine.specs.Tapes.{FileFails, ImageIsBad}
+use Rattle.memory_transfer.specs.Tapes.{FileFails, ImageIsBad}
 use Rattle.expect_actions.specs.Expects.{ExpectTable}
 use Rattle.expect_actions.specs.Watch.{WatchState}
 use Rattle.nova_machine.specs.Wants.{wru, answer_to, own_stop, watch_after, bytes_of, IsConsole}

@@ -1,5 +1,4 @@
 pub mod Machine
-pub mod BusOrder
 pub mod Registers
 pub mod Seen
 pub mod Notes
@@ -8,12 +7,10 @@ pub mod Turned
 pub mod Ends
 pub mod Transfer
 pub mod Sectors
-pub mod Tapes
 pub mod Wants
 pub mod OnLines
 pub mod LineChanges
 pub mod Hosting
-pub mod Operated
 pub mod Service
 pub mod Turn
 pub mod Run
@@ -27,9 +24,7 @@ pub mod Laws
 pub mod StopLaws
 pub mod StopCauses
 pub mod Steps
-pub mod ServiceLaws
 pub mod Core
-pub mod SameRun
 pub mod Valid
-pub mod ValidLaws
-pub mod WordLaws
+pub mod Drives
+pub mod DriveCauses

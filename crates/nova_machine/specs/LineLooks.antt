@@ -5,7 +5,7 @@ use Rattle.unit_trait.specs.declared.kind.Kind.TheVariants.{Tti1}
 use Rattle.unit_trait.specs.declared.calls.Queue.TheVariants.{After}
 use Rattle.unit_trait.specs.Calls.{UnitState}
 use Rattle.event_queue.specs.EventList.{dues, served, activated}
-use Rattle.host_files.specs.Lists.{NamedBytes}
+use Rattle.file_traits.specs.Lists.{NamedBytes}
 use Rattle.host_lines.specs.Traffic.{Answer}
 use Rattle.host_lines.specs.Told.{IsFirst, record_in}
 use Rattle.host_lines.specs.State.{LineState}

@@ -1,7 +1,7 @@
--- A sector of the disk, and its words in memory (How to Use the Nova Computers, "Fixed Head Disk"). In the image of a
--- disk the low byte of each word stands first.
-use Rattle.std.specs.Prelude.{ℕ, zero, suc, ◌+◌, ◌*◌, ◌/◌, ◌%◌, ◌^◌, Bool, true, false, List, [], ◌∷◌, ◌++◌, slice_index, Option, Some}
-use Rattle.nova_memory.specs.Memory.{MemoryState, get, put}
+-- What the disk's answers mean, and what a sector that is read or written changes (How to Use the Nova Computers, "Fixed
+-- Head Disk").
+use Rattle.std.specs.Prelude.{Bool, true, false, Option, Some}
+use Rattle.nova_memory.specs.Memory.{MemoryState}
 use Rattle.unit_trait.specs.declared.calls.Want.{Want}
 use Rattle.unit_trait.specs.declared.calls.Want.TheVariants as want
 use Rattle.unit_trait.specs.declared.calls.Got.{Got}
@@ -10,31 +10,7 @@ use Rattle.unit_files.specs.declared.faults.SectorAnswer.{SectorAnswer}
 use Rattle.unit_files.specs.declared.faults.SectorAnswer.TheVariants as sector
 use Rattle.unit_files.specs.Attachments.{Attachment}
 use Rattle.unit_files.specs.Buffer.{Buffer, sector_of, said_of_reading, said_of_writing, sector_written}
-
--- how many words a sector has
-unfoldable pub sector_words : ℕ
-sector_words = 2 ^ 8
-
--- the word with that number among bytes
-unfoldable pub word_in : List ℕ → ℕ → ℕ
-word_in bytes n = slice_index bytes (2 * n) + 2 ^ 8 * slice_index bytes (2 * n + 1)
-
--- the address so many words further on; behind 77777 (octal) comes 0
-abbrev pub address_on : ℕ → ℕ → ℕ
-address_on from n = (from + n) % 2 ^ 15
-
--- memory once the first so many words of some bytes were put from an address on
-unfoldable pub words_put : ℕ → ℕ → List ℕ → MemoryState → MemoryState
-words_put zero from bytes memory = memory
-words_put (suc n) from bytes memory = put (words_put n from bytes memory) (address_on from n) (word_in bytes n)
-
-abbrev pub bytes_of_word : ℕ → List ℕ
-bytes_of_word w = (w % 2 ^ 8) ∷ (w / 2 ^ 8) ∷ []
-
--- the bytes of so many words of memory from an address on
-unfoldable pub bytes_got : ℕ → ℕ → MemoryState → List ℕ
-bytes_got zero from memory = []
-bytes_got (suc n) from memory = bytes_got n from memory ++ bytes_of_word (get memory (address_on from n))
+use Rattle.memory_transfer.specs.Words.{sector_words, words_put, bytes_got}
 
 -- what the disk's answer means for the unit
 abbrev pub got_of_sector : SectorAnswer → Got

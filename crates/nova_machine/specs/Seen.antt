@@ -2,7 +2,7 @@
 -- them, the watch tables, the timed keys, and all files by their names.
 -- The numbers of open files and of connections are no part of it: the future of a run does not depend on them.
 use Rattle.std.specs.Prelude.{ℕ, List, [], map, Option, option_map}
-use Rattle.host_files.specs.Lists.{NamedBytes}
+use Rattle.file_traits.specs.Lists.{NamedBytes}
 use Rattle.host_lines.specs.Traffic.{Peer, Answer, Ahead}
 use Rattle.host_lines.specs.Told.{ahead_of}
 use Rattle.host_lines.specs.State.{LineState}

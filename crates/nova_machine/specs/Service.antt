@@ -8,7 +8,7 @@ use Rattle.unit_trait.specs.Calls.{Due, Answered}
 use Rattle.event_queue.specs.EventList.{served, dues, wished}
 use Rattle.unit_list.specs.Bus.{row_at, after_at}
 use Rattle.unit_files.specs.Attachments.{Attachment, attachment_at}
-use Rattle.host_files.specs.Lists.{NamedBytes}
+use Rattle.file_traits.specs.Lists.{NamedBytes}
 use Rattle.unit_files.specs.Acts.{Failure}
 use Rattle.expect_actions.specs.KeysFile.{due_key}
 use Rattle.expect_actions.specs.Sends.{due_send}
@@ -16,7 +16,7 @@ use Rattle.nova_machine.specs.declared.machine.Stop.{Stop}
 use Rattle.nova_machine.specs.Machine.{MachineState}
 use Rattle.nova_machine.specs.Notes.{UnitNote, at_unit}
 use Rattle.nova_machine.specs.Sectors.{disk_after}
-use Rattle.nova_machine.specs.Tapes.{NoAnswer}
+use Rattle.memory_transfer.specs.Tapes.{NoAnswer}
 use Rattle.nova_machine.specs.Wants.{answer_to, memory_behind, files_after, taken_after, watch_after, first_key, typed_key, own_stop, prints, stop_by, unanswered}
 use Rattle.nova_machine.specs.OnLines.{Lined, lined, sends}
 use Rattle.nova_machine.specs.Seen.{Seen, with_machine, attached_in}

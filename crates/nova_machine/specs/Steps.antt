@@ -30,7 +30,7 @@ use Rattle.nova_machine.specs.Turned.{Turned, stops}
 use Rattle.nova_machine.specs.Wants.{first_key, typed_key}
 use Rattle.nova_machine.specs.OnLines.{IsOfLine}
 use Rattle.nova_machine.specs.Hosting.{IsHosted, watch_behind}
-use Rattle.nova_machine.specs.Tapes.{writes_tape}
+use Rattle.memory_transfer.specs.Tapes.{writes_tape}
 use Rattle.nova_machine.specs.Service.{want_at, asked, answered, done_for, stopping}
 use Rattle.nova_machine.specs.Turn.{interrupt, fetch}
 use Rattle.nova_machine.specs.Run.{last_time, expired}

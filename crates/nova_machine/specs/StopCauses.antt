@@ -1,6 +1,6 @@
 -- Why a turn or a run stopped, by the machine and the watch tables that it left and by those that it began with, whether
 -- the bytes of files are told or not.
-use Rattle.std.specs.Prelude.{◌≡◌, ◌⊎◌, ℕ, ◌+◌, ◌<◌, ◌≤◌, Bool, true, false, IsTrue, List, [], ◌∷◌, ◌++◌, Option, Some, None, Result, Ok, Err, codes}
+use Rattle.std.specs.Prelude.{◌≡◌, ◌⊎◌, ℕ, ◌+◌, ◌<◌, ◌≤◌, Bool, true, false, IsTrue, List, [], ◌∷◌, ◌++◌, Option, Some, None, codes}
 use Rattle.nova_memory.specs.Memory.{get}
 use Rattle.unit_trait.specs.declared.kind.Kind.{Kind}
 use Rattle.unit_trait.specs.declared.kind.UnitName.{UnitName}
@@ -23,7 +23,6 @@ use Rattle.nova_processor.specs.declared.burst.BurstEnd.TheVariants as burst_end
 use Rattle.nova_processor.specs.Instruction.{following}
 use Rattle.nova_machine.specs.declared.machine.Stop.{Stop}
 use Rattle.nova_machine.specs.declared.machine.Stop.TheVariants.{Halt, ChainLimit, UnknownDevice, Break as BreakStop, Expect, Stepped, Limit, UnitEnd, UnitNone, BadImage, Wru, FileFault, ConsoleFault}
-use Rattle.nova_machine.specs.declared.tape.TapeStop.{TapeStop}
 use Rattle.nova_machine.specs.declared.service.Hosted.{Hosted}
 use Rattle.nova_machine.specs.declared.service.Hosted.TheVariants.{Gets, Matched, Stops}
 use Rattle.nova_machine.specs.declared.service.Hosted.TheVariants as hosted
@@ -112,13 +111,6 @@ IsGotOf a other = Unit {0}
 abbrev pub IsPastRoom : Want → Hosted → Type 0
 IsPastRoom (want.WriteByte place byte) (Gets got.End) = position.largest ≤ place
 IsPastRoom want made = Unit {0}
-
--- an operation on the file of a drive says where the tape stands, or was none
-abbrev pub IsOfTape : Result Got TapeStop → Type 0
-IsOfTape (Ok (got.Tape tape)) = Unit {0}
-IsOfTape (Ok got.Done) = Unit {0}
-IsOfTape (Ok other) = ⊥
-IsOfTape (Err stop) = Unit {0}
 
 -- what was made of a want of a unit of that kind, by its attachment, the key that came and the texts that are waited for
 abbrev pub IsMadeOf : Want → Kind → Option Attachment → Option ℕ → ExpectTable → Hosted → Type 0

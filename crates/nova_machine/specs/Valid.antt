@@ -1,7 +1,7 @@
 -- What every state is that a run works on: true of the beginning, and kept by every turn. Laws speak of such states.
 use Rattle.std.specs.Prelude.{◌≡◌, ℕ, ◌+◌, ◌^◌, ◌<◌, ◌≤◌, false, List, length, Option, Some, None, IfSome}
 use Rattle.std.specs.List.{AllByRecursion}
-use Rattle.host_files.specs.Lists.{NamedBytes, bytes_of}
+use Rattle.file_traits.specs.Lists.{NamedBytes, bytes_of}
 use Rattle.host_lines.specs.Traffic.{Peer, Happening, Traffic, Answer, Gave, Ahead, Script, Answers}
 use Rattle.telnet_lines.specs.Line.{LineOf, unconnected, full_output}
 use Rattle.telnet_lines.specs.Poll.{longest_received}

@@ -1,9 +1,9 @@
 -- What the machine does for a unit whose event is due.
-use Rattle.std.specs.Prelude.{ℕ, ◌+◌, ◌<◌, ◌==◌, ◌≡◌, IsTrue, false, List, [], ◌∷◌, Option, Some, None, option_map, Result, Ok, Err, if◌then◌else◌, ◌≤◌}
+use Rattle.std.specs.Prelude.{ℕ, ◌+◌, ◌<◌, ◌==◌, ◌≡◌, IsTrue, false, List, [], ◌∷◌, Option, Some, None, option_map, Result, Ok, Err, if◌then◌else◌}
 use Rattle.observations.specs.Observations.{Observation, Prints}
-use Rattle.host_files.specs.declared.files.FileCall.{FileCall}
-use Rattle.host_files.specs.declared.files.FileCall.TheVariants as call
-use Rattle.host_files.specs.Lists.{NamedBytes}
+use Rattle.file_traits.specs.declared.files.FileCall.{FileCall}
+use Rattle.file_traits.specs.declared.files.FileCall.TheVariants as call
+use Rattle.file_traits.specs.Lists.{NamedBytes}
 use Rattle.unit_trait.specs.declared.kind.Kind.{Kind}
 use Rattle.unit_trait.specs.declared.kind.UnitName.{UnitName}
 use Rattle.unit_trait.specs.Kinds.{units_of}
@@ -21,9 +21,11 @@ use Rattle.expect_actions.specs.Expects.{ExpectTable, match_at, after_printed}
 use Rattle.expect_actions.specs.Sends.{sends_left}
 use Rattle.expect_actions.specs.Watch.{WatchState}
 use Rattle.nova_machine.specs.Sectors.{got_of_sector, said_of_sector, memory_after}
-use Rattle.nova_machine.specs.Tapes.{NoAnswer, FileFails, ImageIsBad, with_nothing_done, with_some_done, tape_answer, tape_memory, tape_files}
+use Rattle.memory_transfer.specs.Tapes.{NoAnswer, FileFails, ImageIsBad, with_nothing_done, with_some_done}
+use Rattle.nova_machine.specs.Drives.{tape_answer, tape_memory, tape_files}
 use Rattle.nova_machine.specs.declared.machine.Stop.{Stop}
 use Rattle.nova_machine.specs.declared.machine.Stop.TheVariants.{UnitEnd, UnitNone, BadImage, FileFault, Wru, Expect}
+pub use Rattle.memory_transfer.specs.Operated.{IsRunDone}
 
 -- the key that comes where a byte was sent to the keyboard and is due, and where a key is typed: the byte comes first
 abbrev pub first_key : Option ℕ → Option ℕ → Option ℕ
@@ -132,11 +134,6 @@ IsRunCall kind call.Write = is_disk kind ≡ false
 IsRunCall kind call.Length = IsTrue (is_tape kind)
 IsRunCall kind call.SetLength = IsTrue (is_tape kind)
 IsRunCall kind call = ⊥
-
--- A write that fails may have written a first part, at most of the longest block that is written; other calls write nothing.
-abbrev pub IsRunDone : FileCall → ℕ → Type 0
-IsRunDone call.Write done = done ≤ 8200
-IsRunDone other done = done ≡ 0
 
 -- The unit that a stop names, if it names one, is a unit of its kind, its call is one that a run makes, and no more was
 -- written than that call can have.

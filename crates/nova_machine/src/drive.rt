@@ -1,26 +1,29 @@
 // A tape operation is done on the file of a drive.
 ghost use Rattle.std.specs.Prelude.{◌≡◌, ◌<◌, ◌&&◌, ℕ, Option, IsTrue, IfSome};
-ghost use Rattle.host_files.specs.OneList.{shown};
-ghost use Rattle.host_files.specs.Lists.{changed};
-ghost use Rattle.host_files.specs.State.{IsOpen, IsWritable, content, name_at};
+ghost use Rattle.file_traits.specs.OneList.{shown};
+ghost use Rattle.file_traits.specs.Lists.{changed};
+ghost use Rattle.file_traits.specs.State.{IsOpen, IsWritable, content, name_at};
 ghost use Rattle.unit_trait.specs.declared.calls.Want.TheVariants as wants;
 ghost use Rattle.unit_trait.specs.Kinds.{units_of};
 ghost use Rattle.unit_files.specs.Attachments.{attachment_at, attachments_of, read_only_at, is_tape};
 ghost use Rattle.unit_files.specs.Open.{AllOpen};
 ghost use Rattle.nova_machine.specs.Comes.{AreTold, StopCounts, FileCause};
-ghost use Rattle.nova_machine.specs.Tapes.{writes_tape, tape_memory, tape_files, operation, memory_operated, image_operated};
-ghost use Rattle.nova_machine.specs.Operated.{operated, failure_of, IsOnImage, IsTapeCall, StopCause};
+ghost use Rattle.memory_transfer.specs.Tapes.{writes_tape, operation, memory_operated, image_operated};
+ghost use Rattle.nova_machine.specs.Drives.{tape_memory, tape_files};
+ghost use Rattle.memory_transfer.specs.Operated.{operated, failure_of, IsOnImage, IsTapeCall};
+ghost use Rattle.nova_machine.specs.DriveCauses.{StopCause};
 ghost use Rattle.expect_actions.specs.Expects.{ExpectTable};
 ghost use Rattle.nova_machine.specs.Notes.{unit_note, failure_of_stop};
 ghost use Rattle.nova_machine.specs.Hosting.{IsHosted, IsImageOf, HasRoom, IsTapeOrder, stop_in};
-ghost use Rattle.nova_machine.specs.StopCauses.{IsMadeOf, IsOfTape};
+ghost use Rattle.nova_machine.specs.StopCauses.{IsMadeOf};
+ghost use Rattle.memory_transfer.specs.Operated.{IsOfTape};
 ghost use Rattle.nova_machine.specs.Steps.{IsTapeAnswer};
 ghost use Rattle.nova_machine.specs.Wants.{HasUnit};
 
 use crate::machine::{Machine, Stop};
 use crate::service::Hosted;
-use crate::tape::{TapeStop, operate};
-use host_files::{FileId, Files, OneFile};
+use file_traits::{FileId, Files, OneFile};
+use memory_transfer::{TapeStop, operate};
 use nova_memory::Memory;
 use unit_files::{Attached, UnitFault};
 use unit_trait::{Got, TapeOrder, Unit, UnitName};

@@ -7,7 +7,7 @@ ghost use Rattle.nova_machine.specs.Wants.{HasUnit};
 use crate::machine::{Stop, Turn};
 
 /// What an instruction came to. It is small, since each instruction answers one.
-#[derive(Clone, Copy, Debug, PartialEq, Eq)]
+#[derive(Clone, Copy)]
 pub enum InstructionEnd {
     Executed,
     Halt,

@@ -3,7 +3,7 @@ ghost use Rattle.event_queue.specs.EventList.{due};
 ghost use Rattle.unit_list.specs.Bus.{AllFit, kinds_of};
 ghost use Rattle.unit_list.specs.Places.{places_in};
 ghost use Rattle.unit_list.specs.Reset.{reset_units, reset_events};
-ghost use Rattle.host_files.specs.State.{Opened};
+ghost use Rattle.file_traits.specs.State.{Opened};
 ghost use Rattle.unit_files.specs.Open.{AllOpen, Around};
 ghost use Rattle.nova_machine.specs.Core.{AreListed};
 ghost use Rattle.telnet_lines.specs.Line.{unconnected};
@@ -23,7 +23,7 @@ use unit_list::{Places, all_fit, has_unit, reset_all};
 use unit_trait::{CpuReg, Kind, RegFault, Unit, UnitName, code_of};
 
 /// Why a run ended.
-#[derive(Clone, Copy, Debug, PartialEq, Eq)]
+#[derive(Clone, Copy, PartialEq, Eq)]
 pub enum Stop {
     /// HALT, or another output to register C of device 77, was executed.
     Halt,
@@ -59,14 +59,14 @@ pub enum Stop {
 }
 
 /// What a turn came to.
-#[derive(Clone, Copy, Debug, PartialEq, Eq)]
+#[derive(Clone, Copy)]
 pub enum Turn {
     Executed,
     Stopped(Stop),
 }
 
 /// How many instructions a run executes at the most, and whether it is called a step where it has.
-#[derive(Clone, Copy, Debug, PartialEq, Eq)]
+#[derive(Clone, Copy)]
 pub struct RunLimit {
     pub count: u64,
     pub step: bool,
@@ -130,7 +130,7 @@ impl<U: Unit> Model for Machine<U> {
 
 impl<U: Unit> Machine<U> {
     ghost use Rattle.nova_machine.specs.Machine.{new_machine, attached_files, reset_devices, reset_machine};
-    ghost use Rattle.nova_machine.specs.BusOrder.{IsBusOrder};
+    ghost use Rattle.unit_list.specs.BusOrder.{IsBusOrder};
     ghost use Rattle.nova_machine.specs.Core.{IsCore};
     ghost use Rattle.unit_trait.specs.Processor.{largest_of, CanHold};
     ghost use Rattle.nova_machine.specs.Registers.{register_of, with_register};

@@ -5,7 +5,7 @@ ghost use Rattle.nova_machine.specs.Wants.{HasUnit};
 
 use crate::machine::{Machine, RunLimit, Stop, Turn};
 use expect_actions::{Keys, Watch};
-use host_files::{Files, Sink};
+use file_traits::{Files, Sink};
 use host_lines::Lines;
 use nova_processor::BurstEnd;
 use unit_trait::Unit;

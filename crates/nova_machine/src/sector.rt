@@ -4,14 +4,12 @@ ghost use Rattle.unit_trait.specs.declared.calls.Want.TheVariants as wants;
 ghost use Rattle.unit_files.specs.Attachments.{attachment_at};
 ghost use Rattle.unit_files.specs.Buffer.{disk_unit, disk_sectors, said_of_reading, said_of_writing};
 ghost use Rattle.nova_machine.specs.declared.service.Hosted.TheVariants.{Gets};
-ghost use Rattle.nova_machine.specs.Sectors.{sector_words, words_put, bytes_got, got_of_sector, memory_after, disk_after};
+ghost use Rattle.nova_machine.specs.Sectors.{got_of_sector, memory_after, disk_after};
 
 use crate::machine::Machine;
 use crate::service::Hosted;
-use crate::word_bytes::{sector_bytes, sector_word};
-use nova_memory::Memory;
-use nova_word::{Addr, Word};
-use unit_files::{SECTOR_BYTES, SectorAnswer};
+use memory_transfer::{bytes_of, put_words};
+use unit_files::SectorAnswer;
 use unit_trait::{Got, Unit};
 
 impl<U: Unit> Machine<U> {
@@ -63,37 +61,4 @@ fn hosted(answer: SectorAnswer) -> Hosted
         SectorAnswer::NoFile => Hosted::Gets(Got::NoFile),
         SectorAnswer::ReadOnly => Hosted::Gets(Got::ReadOnly),
     }
-}
-
-/// How many words a sector has.
-const SECTOR_WORDS: u16 = 256;
-
-/// Puts the words of a sector into memory, from an address on.
-#[tactic(auto, unfolding(crate::specs::Sectors::words_put, crate::specs::Sectors::word_in, crate::specs::Sectors::sector_words))]
-fn put_words(memory: &mut Memory, address: u16, bytes: &[u8; 512])
-    requires { address < 2 ^ 15 }
-    ensures { memory.new ≡ words_put sector_words address bytes.now memory.old }
-{
-    for n in 0..SECTOR_WORDS {
-        let place = 2 * usize::from(n);
-        let word = sector_word(bytes[place], bytes[place + 1]);
-        memory.write(Addr::of_word(Word(address + n)), Word(word));
-    }
-}
-
-/// The bytes of the words of a sector, which stand in memory from an address on.
-#[tactic(auto, unfolding(crate::specs::Sectors::bytes_got, crate::specs::Sectors::sector_words))]
-fn bytes_of(memory: &Memory, address: u16) -> [u8; 512]
-    requires { address < 2 ^ 15 }
-    ensures { result ≡ bytes_got sector_words address memory.now }
-{
-    let mut bytes = [0; 512];
-    for n in 0..SECTOR_WORDS {
-        let word = memory.read(Addr::of_word(Word(address + n)));
-        let place = 2 * usize::from(n);
-        let [low, high] = sector_bytes(word.0);
-        bytes[place] = low;
-        bytes[place + 1] = high;
-    }
-    bytes
 }

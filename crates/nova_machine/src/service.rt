@@ -21,7 +21,7 @@ ghost use Rattle.nova_machine.specs.Wants.{taken_after, files_after, watch_after
 
 use crate::machine::{Machine, Stop};
 use expect_actions::{Keys, Watch};
-use host_files::{Failed, Files, Sink, put_all};
+use file_traits::{Failed, Files, Sink, put_all};
 use host_lines::Lines;
 use unit_files::ByteAnswer;
 use unit_list::{Places, due_at, got_at};

@@ -1,5 +1,5 @@
 ghost use Rattle.std.specs.Prelude.{◌≡◌, ◌<◌, ◌+◌, ℕ, List, true, false, None, IfSome};
-ghost use Rattle.host_files.specs.Lists.{NamedBytes};
+ghost use Rattle.file_traits.specs.Lists.{NamedBytes};
 ghost use Rattle.host_lines.specs.Traffic.{Answer};
 ghost use Rattle.host_lines.specs.State.{LineState};
 ghost use Rattle.event_queue.specs.EventList.{due};
@@ -11,7 +11,7 @@ ghost use Rattle.nova_machine.specs.Wants.{HasUnit};
 use crate::instruction_end::InstructionEnd;
 use crate::machine::{Machine, Stop, Turn};
 use expect_actions::{Keys, Watch};
-use host_files::{Files, Sink};
+use file_traits::{Files, Sink};
 use host_lines::Lines;
 use nova_memory::ChainLimit;
 use nova_word::{Addr, Word};

@@ -1,10 +1,8 @@
 pub mod OutsideLemmas
-pub mod WordsLemmas
 pub mod WorkloadLemmas
 pub mod WordFileLemmas
 pub mod ReadingLemmas
 pub mod UnreadLemmas
-pub mod StandardLemmas
 pub mod PortLemmas
 pub mod ProgramLemmas
 pub mod ValidProgram

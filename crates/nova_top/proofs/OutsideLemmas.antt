@@ -1,6 +1,6 @@
 -- The whole program against its outcome.
 use Rattle.std.proofs.Common.{◌≡◌, ◌≢◌, inl, inr, ℕ, zero, suc, ◌+◌, ◌-◌, nat_le, Bool, true, false, if◌then◌else◌, ◌<◌, ◌≤◌, List, [], ◌++◌, length, take, drop, refl, ap, sym, ◌∙◌, arith, append-nil, length-take-le, Option, Some, None}
-use Rattle.host_files.specs.Lists.{NamedBytes}
+use Rattle.file_traits.specs.Lists.{NamedBytes}
 use Rattle.observations.specs.Observations.{text_of, Trace}
 use Rattle.observations.specs.Cut.{ends, cut_trace, sent_until, map_outcome}
 use Rattle.observations.proofs.CutLemmas.{cut-printed, cut-refused, cut-map, sent-map, more-room, sent-more-room, first-part, whole, all-sent}
@@ -13,15 +13,15 @@ use Rattle.host_lines.specs.Told.{ahead_of, Heard, Named, Unnamed}
 use Rattle.nova_machine.specs.Seen.{seen, beside}
 use Rattle.nova_machine.specs.Comes.{output}
 use Rattle.nova_machine.specs.LineChanges.{heard_with}
-use Rattle.scp_commands.specs.Live.{Beyond}
+use Rattle.command_session.specs.Live.{Beyond}
 use Rattle.scp_script.specs.declared.progress.Finish.{Finish}
 use Rattle.scp_script.specs.declared.progress.Finish.TheVariants.{Exit, EndOfInput, FlushFailed, Commands, Console, Input, OutOfMemory}
 use Rattle.scp_script.specs.Lines.{reads_left}
 use Rattle.scp_script.specs.Session.{State, trace}
 use Rattle.scp_script.specs.Loop.{IsExitStatus, LetsThrough, status_of}
 use Rattle.scp_script.specs.Perform.{IsSession}
-use Rattle.nova_top.specs.declared.options.Options.{Options}
-use Rattle.nova_top.specs.Words.{options_of}
+use Rattle.command_words.specs.declared.options.Options.{Options}
+use Rattle.command_words.specs.Words.{options_of}
 use Rattle.expect_actions.specs.Watch.{WatchState}
 use Rattle.nova_top.specs.Outside.{Outside, Left, left_by, Start, Refused, Begins, start_of, session_with, opening, trace_from, whole_trace, trace_of, outcome, sent_by}
 use Rattle.nova_top.specs.Ends.{IsOutcome, IsComplete, left_at, handed_in}

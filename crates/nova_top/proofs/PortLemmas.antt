@@ -5,7 +5,7 @@ use Rattle.host_lines.specs.State.{LineState}
 use Rattle.telnet_lines.specs.Line.{LineOf, unconnected}
 use Rattle.telnet_lines.specs.Many.{AreApart}
 use Rattle.nova_machine.specs.Machine.{MachineState}
-use Rattle.scp_commands.specs.LinesLeft.{LinesLeft}
+use Rattle.command_session.specs.LinesLeft.{LinesLeft}
 use Rattle.nova_top.specs.Ends.{PortAtEnd, LinesAtEnd}
 
 -- nobody is connected to a machine that begins

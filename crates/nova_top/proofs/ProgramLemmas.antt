@@ -4,11 +4,11 @@ use Rattle.std.proofs.lemmas.List.{length-map}
 use Rattle.std.proofs.Math.Seq.{drop-append_seam, drop-length}
 use Rattle.std.proofs.lemmas.Bool.{eq-eqb}
 use Rattle.fault_counts.specs.Faults.{raised, Rose}
-use Rattle.host_files.specs.declared.streams.Failed.{Failed}
-use Rattle.host_files.specs.Lists.{NamedBytes}
-use Rattle.host_files.specs.Streams.{Puts}
-use Rattle.host_files.specs.State.{FileState, Opened}
-use Rattle.host_files.specs.declared.files.FileId.{FileId}
+use Rattle.file_traits.specs.declared.streams.Failed.{Failed}
+use Rattle.file_traits.specs.Lists.{NamedBytes}
+use Rattle.file_traits.specs.Streams.{Puts}
+use Rattle.file_traits.specs.State.{FileState, Opened}
+use Rattle.file_traits.specs.declared.files.FileId.{FileId}
 use Rattle.host_lines.specs.Traffic.{Gone, Ahead, Answer as LineAnswer}
 use Rattle.host_lines.specs.Told.{ahead_of}
 use Rattle.host_lines.specs.State.{LineState}
@@ -32,18 +32,18 @@ use Rattle.nova_machine.specs.Machine.{MachineState, new_machine, reset_machine,
 use Rattle.nova_machine.specs.Seen.{seen, beside, erased, attached_in}
 use Rattle.nova_machine.specs.Comes.{Output, output}
 use Rattle.state_file.specs.SavedValid.{AreStandard}
-use Rattle.scp_commands.specs.Live.{Live, CommandState, Beyond, beyond, live_in}
-use Rattle.scp_commands.specs.Doing.{IsLate, ComeBehind}
+use Rattle.command_session.specs.Live.{Live, CommandState, Beyond, beyond, live_in}
+use Rattle.command_session.specs.Doing.{IsLate, ComeBehind}
 use Rattle.scp_script.specs.declared.progress.Finish.{Finish}
 use Rattle.scp_script.specs.declared.progress.Finish.TheVariants.{Exit, EndOfInput, FlushFailed, Commands, Console, Input, OutOfMemory}
 use Rattle.scp_script.specs.Session.{Session}
 use Rattle.scp_script.specs.Loop.{IsExitStatus, FinishCause, AreKept, KeptCause, MayFollow, status_of}
 use Rattle.scp_script.specs.declared.perform_session.Opening.{Opening}
 use Rattle.scp_script.specs.Perform.{beginning, beginning_with, IsSession, RunsShort, IsPerformed, Performed}
-use Rattle.nova_top.specs.declared.options.Options.{Options}
-use Rattle.nova_top.specs.Standard.{IsStandard, standard_units}
+use Rattle.command_words.specs.declared.options.Options.{Options}
+use Rattle.command_words.specs.Standard.{IsStandard, standard_units}
 use Rattle.scp_script.specs.Actions.{texts_of as waiting_texts}
-use Rattle.nova_top.specs.Words.{options_of, texts_of}
+use Rattle.command_words.specs.Words.{options_of, texts_of}
 use Rattle.nova_top.specs.Workload.{with_workload}
 use Rattle.nova_top.specs.Outside.{Denial, Begins, Refused, denied, start_of, session_with, opening, usage_text, unopened_text}
 use Rattle.nova_top.specs.Ends.{IsOutcome, AreWordClosings, IsCutShort, HasKeysFile, HasScript, StatusCause, NoneFailed, IsComplete, KeptUnwritten, HasWorkload}

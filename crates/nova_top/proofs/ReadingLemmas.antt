@@ -5,11 +5,11 @@ use Rattle.std.specs.List.{AllByRecursion}
 use Rattle.std.proofs.lemmas.List.{map-append, length-map, drop-map}
 use Rattle.std.proofs.Math.Seq.{take-suc}
 use Rattle.fault_counts.specs.Faults.{raised}
-use Rattle.host_files.specs.declared.files.FileCall.{FileCall}
-use Rattle.host_files.specs.declared.files.FileCall.TheVariants.{Opening, Length, Read, Write, SetLength, Closing}
-use Rattle.host_files.specs.declared.files.FileId.{FileId}
-use Rattle.host_files.specs.Lists.{NamedBytes}
-use Rattle.host_files.specs.State.{FileState}
+use Rattle.file_traits.specs.declared.files.FileCall.{FileCall}
+use Rattle.file_traits.specs.declared.files.FileCall.TheVariants.{Opening, Length, Read, Write, SetLength, Closing}
+use Rattle.file_traits.specs.declared.files.FileId.{FileId}
+use Rattle.file_traits.specs.Lists.{NamedBytes}
+use Rattle.file_traits.specs.State.{FileState}
 use Rattle.file_commands.specs.declared.note.FaultNote.{FaultNote}
 use Rattle.file_commands.specs.declared.note.Subject.{Subject}
 use Rattle.file_commands.specs.declared.note.Subject.TheVariants as subject
@@ -21,9 +21,9 @@ use Rattle.file_commands.specs.Counts as counts
 use Rattle.unit_files.specs.Attachments.{no_files}
 use Rattle.file_commands.specs.OwnFiles.{AreOwn}
 use Rattle.file_commands.proofs.OwnFiles.{own-both}
-use Rattle.scp_commands.specs.WholeCalls.{both_notes}
-use Rattle.scp_commands.proofs.WholeLemmas.{read-claims}
-use Rattle.scp_commands.proofs.OwnFileLemmas.{whole-own}
+use Rattle.command_session.specs.WholeCalls.{both_notes}
+use Rattle.command_session.proofs.WholeLemmas.{read-claims}
+use Rattle.command_session.proofs.OwnFileLemmas.{whole-own}
 use Rattle.file_commands.proofs.Adding.{noted-append, openings-append, counted-both}
 use Rattle.file_commands.proofs.Causes.{rose-one}
 use Rattle.whole_files.specs.declared.whole.FailedCall.{FailedCall}
@@ -35,16 +35,16 @@ use Rattle.whole_files.specs.Claims as claims
 use Rattle.whole_files.specs.Claims.{said_of_bytes, call_of, claimed, ComesBefore, HasShape, raised_by, claims_of, claims_on, is_opening, opening_counted}
 use Rattle.expect_actions.specs.KeysFile.{Key}
 use Rattle.scp_script.specs.Loop.{AreKept}
-use Rattle.nova_top.specs.declared.options.Options.{Options}
+use Rattle.command_words.specs.declared.options.Options.{Options}
 use Rattle.nova_top.specs.declared.word_files.Refusal.{Refusal}
 use Rattle.nova_top.specs.declared.word_files.Refusal.TheVariants as refused
 use Rattle.nova_top.specs.Ends.{AreWordClosings}
-use Rattle.nova_top.specs.Words.{keys_name, script_name, script_words, texts_of}
+use Rattle.command_words.specs.Words.{keys_name, script_name, script_words, texts_of}
 use Rattle.nova_top.specs.Outside.{keys_from, taken_keys, script_from, taken_script}
 use Rattle.nova_top.specs.Program.{noted_call, word_notes, AddsClosings, IsWant, ReadsFile, ComesOf, IsTaken, Takes}
-use Rattle.nova_top.proofs.WordsLemmas.{rest-same}
+use Rattle.command_words.proofs.WordsLemmas.{rest-same}
 use Rattle.nova_top.proofs.WordFileLemmas.{file-taken, name-at}
-use Rattle.scp_commands.proofs.WholeLemmas.{rose-by}
+use Rattle.command_session.proofs.WholeLemmas.{rose-by}
 
 -- ---- the notes
 

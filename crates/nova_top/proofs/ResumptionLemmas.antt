@@ -6,23 +6,23 @@ use Rattle.std.specs.Prelude.{Option}
 use Rattle.observations.specs.Observations.{Observation, Trace, after_made, map_trace, text_of, reads_of, sent_of}
 use Rattle.observations.specs.Cut.{Outcome}
 use Rattle.observations.proofs.MadeLemmas.{text_of-append, text_of-map, reads_of-append, reads_of-map, sent_of-append, sent_of-map}
-use Rattle.host_files.specs.Lists.{NamedBytes}
+use Rattle.file_traits.specs.Lists.{NamedBytes}
 use Rattle.host_lines.specs.Traffic.{Ahead}
 use Rattle.host_lines.specs.Told.{ahead_of}
 use Rattle.file_commands.specs.Notes.{Note}
 use Rattle.expect_actions.specs.KeysFile.{Key}
 use Rattle.nova_machine.specs.Machine.{MachineState}
 use Rattle.nova_machine.specs.LineChanges.{heard_with}
-use Rattle.scp_commands.specs.Live.{Beyond}
+use Rattle.command_session.specs.Live.{Beyond}
 use Rattle.scp_script.specs.Session.{State, Session, asking, Course, trace, ComesTo}
-use Rattle.scp_script.specs.Resumption.{resumed, behind_save, SavedAndRestored}
-use Rattle.scp_script.proofs.CoreLemmas.{course-behind}
-use Rattle.scp_script.specs.Valid.{ValidSession}
-use Rattle.scp_script.proofs.LawLemmas.{lines-are-consumed}
-use Rattle.scp_script.proofs.ValidSessions.{sessions-stay-valid}
-use Rattle.scp_script.proofs.ResumptionLemmas.{restored-comes, saves-come, traces-saved, saved-and-restored-go-on-alike}
-use Rattle.nova_top.specs.declared.options.Options.{Options}
-use Rattle.nova_top.specs.Words.{options_of}
+use Rattle.script_laws.specs.Resumption.{resumed, behind_save, SavedAndRestored}
+use Rattle.script_laws.proofs.CoreLemmas.{course-behind}
+use Rattle.script_laws.specs.Valid.{ValidSession}
+use Rattle.script_laws.proofs.LawLemmas.{lines-are-consumed}
+use Rattle.script_laws.proofs.ValidSessions.{sessions-stay-valid}
+use Rattle.script_laws.proofs.ResumptionLemmas.{restored-comes, saves-come, traces-saved, saved-and-restored-go-on-alike}
+use Rattle.command_words.specs.declared.options.Options.{Options}
+use Rattle.command_words.specs.Words.{options_of}
 use Rattle.nova_top.specs.Outside.{Outside, Start, Begins, Left, left_by, start_of, opening, trace_from, trace_of, whole_trace, outcome, session_with, sent_by}
 use Rattle.nova_top.specs.Ends.{IsOutcome, handed_in}
 use Rattle.nova_top.specs.Resumption.{Reaches, EndsAsThat, ResumesSaved, Ran, IsRun, EndAlike, RestoredProgramsGoOn}

@@ -2,8 +2,8 @@
 use Rattle.std.proofs.Common.{◌≡◌, ◌⊎◌, inl, inr, ℕ, ◌+◌, ◌<◌, ◌≤◌, Bool, true, false, IsTrue, List, [], ◌∷◌, ◌++◌, length, get_or, refl, ap, sym, ◌∙◌, subst, arith, append_assoc, Option, Some, None, IsSome, is_some, String, Global, string_bytes, Result, Ok, Err, IfOk, if◌then◌else◌}
 use Rattle.std.specs.Global.{Vec}
 use Rattle.fault_counts.specs.Faults.{raised}
-use Rattle.host_files.specs.Lists.{NamedBytes, find_file, bytes_of}
-use Rattle.host_files.specs.State.{FileState}
+use Rattle.file_traits.specs.Lists.{NamedBytes, find_file, bytes_of}
+use Rattle.file_traits.specs.State.{FileState}
 use Rattle.file_commands.specs.declared.note.FaultNote.{FaultNote}
 use Rattle.file_commands.specs.declared.note.Subject.{Subject}
 use Rattle.file_commands.specs.declared.note.Subject.TheVariants as subject
@@ -14,18 +14,18 @@ use Rattle.whole_files.specs.declared.whole.WholeFault.TheVariants as whole
 use Rattle.whole_files.specs.Whole.{longest_file}
 use Rattle.whole_files.specs.Claims.{HasShape, raised_by, claims_on, opening_counted, Fits, WholeCause}
 use Rattle.nova_machine.specs.Machine.{MachineState}
-use Rattle.scp_commands.specs.Doing.{AllClosings, FileCause, Keeps}
-use Rattle.scp_commands.specs.ScriptEffects.{script_of}
-use Rattle.scp_commands.specs.WholeCalls.{whole_answer}
-use Rattle.scp_commands.proofs.WholeLemmas.{read-keeps}
+use Rattle.command_session.specs.Doing.{AllClosings, FileCause, Keeps}
+use Rattle.host_commands.specs.DoEffects.{script_of}
+use Rattle.command_session.specs.WholeCalls.{whole_answer}
+use Rattle.command_session.proofs.WholeLemmas.{read-keeps}
 use Rattle.scp_script.specs.declared.progress.Finish.{Finish}
 use Rattle.scp_script.specs.declared.progress.Finish.TheVariants as finish
 use Rattle.scp_script.specs.Loop.{FinishCause, AreKept, status_of}
-use Rattle.nova_top.specs.declared.options.Options.{Options}
+use Rattle.command_words.specs.declared.options.Options.{Options}
 use Rattle.nova_top.specs.declared.word_files.Refusal.{Refusal}
 use Rattle.nova_top.specs.declared.word_files.Refusal.TheVariants.{Unopened, BadKeys, OutOfMemory}
 use Rattle.nova_top.specs.Ends.{AreWordClosings}
-use Rattle.nova_top.specs.Words.{options_of, keys_name, script_name, texts_of}
+use Rattle.command_words.specs.Words.{options_of, keys_name, script_name, texts_of}
 use Rattle.nova_top.specs.Program.{noted_call, AddsClosings, denial_of, RefusedCause, DeniedCause}
 use Rattle.nova_top.specs.Unread.{NotRead, WordsNotRead, IsUnopened, NamedFits, AreMeasured, keys_ids, behind_ids, NotedAs, WordCause, AnswersRead, TakesCause, BeginsCause, HasNoKeys}
 use Rattle.nova_top.proofs.WordFileLemmas.{name-at}

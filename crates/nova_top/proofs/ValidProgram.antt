@@ -12,7 +12,7 @@ use Rattle.nova_word.specs.Quoted.{quoted_read}
 use Rattle.nova_memory.specs.Memory.{MemoryState, IsMemory, IsSize, put}
 use Rattle.nova_memory.proofs.Keeps.{put-memory}
 use Rattle.nova_memory.proofs.Chains.{put-size}
-use Rattle.host_files.specs.Lists.{NamedBytes}
+use Rattle.file_traits.specs.Lists.{NamedBytes}
 use Rattle.file_commands.specs.declared.note.Subject.TheVariants as subject
 use Rattle.file_commands.specs.Notes.{Note}
 use Rattle.whole_files.specs.Whole.{WholeSaid, WholeIs}
@@ -25,24 +25,25 @@ use Rattle.unit_files.specs.Attachments.{Held}
 use Rattle.nova_machine.specs.Machine.{MachineState, reset_devices, reset_machine, new_machine}
 use Rattle.nova_machine.specs.Seen.{unnumbered, erased}
 use Rattle.nova_machine.specs.Valid.{AreBytes, HasByteName, ValidMachine, ValidLine, DiskIsItsFile}
-use Rattle.nova_machine.proofs.StayingValid.{runs-stay-valid, kinds-begin}
-use Rattle.nova_machine.proofs.ValidBytes.{AreFiles, every-append, every-take, every-drop}
-use Rattle.scp_commands.specs.Valid.{IsProgramMachine, ValidLive}
-use Rattle.scp_commands.proofs.ValidWatch.{read-bytes}
-use Rattle.scp_commands.proofs.ValidMachines.{GivesWhole, whole-bytes, memory-valid}
+use Rattle.machine_laws.proofs.StayingValid.{runs-stay-valid, kinds-begin}
+use Rattle.machine_laws.proofs.ValidBytes.{AreFiles}
+use Rattle.nova_machine.proofs.Each.{every-append, every-take, every-drop}
+use Rattle.command_laws.specs.Valid.{IsProgramMachine, ValidLive}
+use Rattle.command_laws.proofs.ValidWatch.{read-bytes}
+use Rattle.command_laws.proofs.ValidMachines.{GivesWhole, whole-bytes, memory-valid}
 use Rattle.unit_list.proofs.Resets.{reset-kinds}
 use Rattle.scp_script.specs.Scripts.{Script}
 use Rattle.scp_script.specs.Session.{State, trace}
-use Rattle.scp_script.specs.Valid.{ValidScript}
-use Rattle.scp_script.proofs.ValidSessions.{sessions-stay-valid}
-use Rattle.nova_top.specs.declared.options.Options.{Options}
-use Rattle.nova_top.specs.Standard.{standard_kinds, standard_units}
-use Rattle.nova_top.specs.Words.{keys_name, script_name, script_words, options_of}
+use Rattle.script_laws.specs.Valid.{ValidScript}
+use Rattle.script_laws.proofs.ValidSessions.{sessions-stay-valid}
+use Rattle.command_words.specs.declared.options.Options.{Options}
+use Rattle.command_words.specs.Standard.{standard_kinds, standard_units}
+use Rattle.command_words.specs.Words.{keys_name, script_name, script_words, options_of}
 use Rattle.nova_top.specs.Workload.{next_number, words_behind, with_words, loop_words, count_words, filled, with_workload, workload_text, first_text}
 use Rattle.nova_top.specs.Outside as outside
 use Rattle.nova_top.specs.Outside.{Outside, Left, left_by, calls_on, word_file, Denial, unopened, or_bad_keys, taken_keys, script_from, taken_script, Start, Refused, Begins, denied, start_by, start_of, first_scripts, first_live, session_with, opening, trace_from, whole_trace, trace_of, outcome}
 use Rattle.nova_top.specs.ValidLaws.{AreHandedBytes, ValidLeft, IsGoodOpening, ProgramStaysValid}
-use Rattle.nova_top.proofs.WordsLemmas.{IsLimit, words-fit}
+use Rattle.command_words.proofs.WordsLemmas.{IsLimit, words-fit}
 
 -- ---- keys
 

@@ -5,8 +5,8 @@ use Rattle.std.specs.List.{prefix_len}
 use Rattle.std.specs.Global.{Vec}
 use Rattle.std.proofs.lemmas.List.{length-map, get_or-map}
 use Rattle.std.proofs.Math.Seq.{drop-append_seam}
-use Rattle.host_files.specs.declared.files.FileCall.{FileCall}
-use Rattle.host_files.specs.Lists.{NamedBytes}
+use Rattle.file_traits.specs.declared.files.FileCall.{FileCall}
+use Rattle.file_traits.specs.Lists.{NamedBytes}
 use Rattle.file_commands.specs.declared.note.FaultNote.{FaultNote}
 use Rattle.file_commands.specs.declared.note.Subject.{Subject}
 use Rattle.file_commands.specs.declared.note.Subject.TheVariants as subject
@@ -18,11 +18,12 @@ use Rattle.whole_files.specs.Claims.{said_of_bytes}
 use Rattle.expect_actions.specs.KeysFile.{Key}
 use Rattle.scp_script.specs.declared.perform_session.Opening.{Opening}
 use Rattle.scp_script.specs.Scripts.{first_script, begun}
-use Rattle.nova_top.specs.declared.options.Options.{Options}
+use Rattle.command_words.specs.declared.options.Options.{Options}
 use Rattle.nova_top.specs.declared.word_files.Refusal.{Refusal}
 use Rattle.nova_top.specs.declared.word_files.Beginning.{Beginning}
-use Rattle.nova_top.specs.Words.{keys_name, script_name, script_words, texts_of}
+use Rattle.command_words.specs.Words.{keys_name, script_name, script_words, texts_of}
 use Rattle.nova_top.specs.Workload.{first_text}
+use Rattle.command_words.proofs.WordsLemmas.{some-weaker}
 use Rattle.nova_top.specs.Outside.{Denial, is_call_on, calls_on, word_file, taken_keys, taken_script, Start, Begins, denied, start_by, start_of, first_scripts}
 use Rattle.nova_top.specs.Program.{StartsWith, word_notes, denial_of, ComesOf, IsTaken, Takes, as_file, script_text, BeginsAs, OpensAs}
 
@@ -63,10 +64,6 @@ calls-other (call ∷ calls) more follow =
     ap calls_in (while-no (is_call_on subject.Keys) (of-call subject.Script call) (handed 0 (word_notes subject.Script calls ++ more)) refl)
 
 -- ---- what is taken of a file
-
-pub some-weaker : {A : Type 0} (P Q : A → Type 0) (o : Option A) → ((a : A) → P a → Q a) → IfSome o P → IfSome o Q
-some-weaker P Q None all is = tt
-some-weaker P Q (Some a) all is = all a is
 
 by-said : {T : Type 0} (words : List (List ℕ)) (from : WholeSaid → Result T Denial) (o : Option WholeSaid) (result : Result T Refusal) (read : WholeSaid × ℕ) (n : ℕ)
     → ComesOf words from o result → IfSome o (λ said. read ≡ (said, n)) → IsTaken words result (from read.0, read.1) n

@@ -3,10 +3,10 @@
 use Rattle.std.specs.Prelude.{◌≡◌, ◌≢◌, ◌⊎◌, ℕ, ◌+◌, ◌≤◌, Bool, IsTrue, List, [], ◌++◌, length, drop, map, Option, Some, None, IsSome, option_map}
 use Rattle.std.specs.List.{AllByRecursion}
 use Rattle.fault_counts.specs.Faults.{raised, Rose}
-use Rattle.host_files.specs.declared.files.FileCall.TheVariants.{Closing}
+use Rattle.file_traits.specs.declared.files.FileCall.TheVariants.{Closing}
 use Rattle.observations.specs.Observations.{Trace, text_of, reads_of, sent_of}
 use Rattle.observations.specs.Cut.{ends}
-use Rattle.host_files.specs.State.{Opened, FileState}
+use Rattle.file_traits.specs.State.{Opened, FileState}
 use Rattle.host_lines.specs.Traffic.{Peer}
 use Rattle.host_lines.specs.Told.{ahead_of}
 use Rattle.host_lines.specs.State.{LineState}
@@ -21,11 +21,11 @@ use Rattle.nova_machine.specs.Machine.{MachineState}
 use Rattle.nova_machine.specs.Seen.{erased}
 use Rattle.nova_machine.specs.Comes.{output}
 use Rattle.nova_machine.specs.LineChanges.{HasConnection, heard_with}
-use Rattle.scp_commands.specs.Live.{Live, Beyond}
-use Rattle.scp_commands.specs.LinesLeft.{HasPort, AreListened}
+use Rattle.command_session.specs.Live.{Live, Beyond}
+use Rattle.command_session.specs.LinesLeft.{HasPort, AreListened}
 use Rattle.scp_script.specs.Perform.{RunsShort}
-use Rattle.nova_top.specs.declared.options.Options.{Options}
-use Rattle.nova_top.specs.Words.{options_of}
+use Rattle.command_words.specs.declared.options.Options.{Options}
+use Rattle.command_words.specs.Words.{options_of}
 use Rattle.nova_top.specs.Outside.{Outside, Left, left_by, Begins, start_of, opening, outcome, sent_by, whole_trace}
 
 -- a machine without the numbers of open files, where there is one

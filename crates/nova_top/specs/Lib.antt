@@ -1,6 +1,3 @@
-pub mod Counts
-pub mod Standard
-pub mod Words
 pub mod Workload
 pub mod Outside
 pub mod Ends

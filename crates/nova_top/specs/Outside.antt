@@ -4,8 +4,8 @@ use Rattle.observations.specs.declared.exit_status.ExitStatus.TheVariants as exi
 use Rattle.observations.specs.Status.{number_of}
 use Rattle.observations.specs.Observations.{Prints, Trace, map_trace}
 use Rattle.observations.specs.Cut.{Outcome, cut_trace, sent_until}
-use Rattle.host_files.specs.declared.files.FileCall.{FileCall}
-use Rattle.host_files.specs.Lists.{NamedBytes}
+use Rattle.file_traits.specs.declared.files.FileCall.{FileCall}
+use Rattle.file_traits.specs.Lists.{NamedBytes}
 use Rattle.host_lines.specs.Traffic.{Peer, Gone, Ahead}
 use Rattle.telnet_lines.specs.Line.{LineOf, renamed}
 use Rattle.file_commands.specs.declared.note.Subject.{Subject}
@@ -16,14 +16,14 @@ use Rattle.expect_actions.specs.KeysFile.{Key, keys_read}
 use Rattle.expect_actions.specs.Watch.{empty_watch}
 use Rattle.nova_machine.specs.Machine.{MachineState, new_machine}
 use Rattle.nova_machine.specs.Seen.{erased}
-use Rattle.scp_commands.specs.Live.{Live}
+use Rattle.command_session.specs.Live.{Live}
 use Rattle.scp_script.specs.Scripts.{Script, begun}
 use Rattle.scp_script.specs.Session.{State, Session, trace}
 use Rattle.scp_script.specs.Actions.{texts_of}
-use Rattle.nova_top.specs.declared.options.Options.{Options}
-use Rattle.nova_top.specs.Standard.{standard_units}
+use Rattle.command_words.specs.declared.options.Options.{Options}
+use Rattle.command_words.specs.Standard.{standard_units}
 use Rattle.nova_top.specs.Workload.{with_workload, first_text}
-use Rattle.nova_top.specs.Words.{options_of, keys_name, script_name, script_words}
+use Rattle.command_words.specs.Words.{options_of, keys_name, script_name, script_words}
 
 -- The words and the input; all files by their names; what is still to come on lines; the calls on files that fail, in
 -- order; how many bytes the console takes; and how many reads the input lets through before one fails, where to find its

@@ -4,9 +4,9 @@ use Rattle.std.specs.Global.{Vec}
 use Rattle.fault_counts.specs.Faults.{raised}
 use Rattle.observations.specs.declared.exit_status.ExitStatus.TheVariants as exits
 use Rattle.observations.specs.Status.{number_of}
-use Rattle.host_files.specs.declared.files.FileCall.{FileCall}
-use Rattle.host_files.specs.Lists.{NamedBytes}
-use Rattle.host_files.specs.Streams.{AddsPart}
+use Rattle.file_traits.specs.declared.files.FileCall.{FileCall}
+use Rattle.file_traits.specs.Lists.{NamedBytes}
+use Rattle.file_traits.specs.Streams.{AddsPart}
 use Rattle.file_commands.specs.declared.note.FaultNote.{FaultNote}
 use Rattle.file_commands.specs.declared.note.Subject.{Subject}
 use Rattle.file_commands.specs.Notes.{Note, Follow, notes_said}
@@ -16,17 +16,17 @@ use Rattle.whole_files.specs.Whole.{WholeSaid, whole_act}
 use Rattle.whole_files.specs.Claims.{said_of_bytes}
 use Rattle.expect_actions.specs.Watch.{WatchState}
 use Rattle.nova_machine.specs.Machine.{MachineState}
-use Rattle.scp_commands.specs.declared.do_file.DoFile.{DoFile}
+use Rattle.command_session.specs.declared.do_file.DoFile.{DoFile}
 use Rattle.scp_script.specs.declared.perform_session.Opening.{Opening}
 use Rattle.scp_script.specs.declared.progress.Finish.{Finish}
 use Rattle.scp_script.specs.Loop.{status_of}
 use Rattle.scp_script.specs.Scripts.{first_script}
 use Rattle.nova_top.specs.Ends.{AreWordClosings}
-use Rattle.nova_top.specs.declared.options.Options.{Options}
+use Rattle.command_words.specs.declared.options.Options.{Options}
 use Rattle.nova_top.specs.declared.word_files.Refusal.{Refusal}
 use Rattle.nova_top.specs.declared.word_files.Refusal.TheVariants.{Unopened, BadKeys, OutOfMemory}
 use Rattle.nova_top.specs.declared.word_files.Beginning.{Beginning}
-use Rattle.nova_top.specs.Words.{script_words}
+use Rattle.command_words.specs.Words.{script_words}
 use Rattle.nova_top.specs.Outside.{Denial, unopened, bad_keys_text, calls_on, Start, Begins, denied, start_of, first_scripts}
 
 -- With these notes, before any of later commands, the program starts so, and uses them.

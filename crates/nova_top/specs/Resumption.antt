@@ -7,11 +7,11 @@ use Rattle.file_commands.specs.Notes.{Note}
 use Rattle.expect_actions.specs.KeysFile.{Key}
 use Rattle.nova_machine.specs.Machine.{MachineState}
 use Rattle.nova_machine.specs.LineChanges.{heard_with}
-use Rattle.scp_commands.specs.Live.{Live, Beyond}
+use Rattle.command_session.specs.Live.{Live, Beyond}
 use Rattle.scp_script.specs.Session.{State, Session, asking, trace, ComesTo}
-use Rattle.scp_script.specs.Resumption.{RestoresSaved, resumed, SavedAndRestored}
-use Rattle.nova_top.specs.declared.options.Options.{Options}
-use Rattle.nova_top.specs.Words.{options_of}
+use Rattle.script_laws.specs.Resumption.{RestoresSaved, resumed, SavedAndRestored}
+use Rattle.command_words.specs.declared.options.Options.{Options}
+use Rattle.command_words.specs.Words.{options_of}
 use Rattle.nova_top.specs.Outside.{Begins, start_of, opening, left_by}
 use Rattle.nova_top.specs.Ends.{IsOutcome, left_at}
 use Rattle.nova_top.specs.ValidLaws.{AreHandedBytes}

@@ -1,7 +1,7 @@
 -- Why the keys file or the script was not read, also where files tell nothing.
 use Rattle.std.specs.Prelude.{◌≡◌, ◌⊎◌, ◌+◌, ◌<◌, ℕ, Bool, List, ◌++◌, Option, Some, None, IfSome, IsSome, Result, Ok, Err}
 use Rattle.std.specs.Global.{Vec}
-use Rattle.host_files.specs.State.{FileState}
+use Rattle.file_traits.specs.State.{FileState}
 use Rattle.expect_actions.specs.KeysFile.{keys_read}
 use Rattle.file_commands.specs.declared.note.FaultNote.{FaultNote}
 use Rattle.file_commands.specs.declared.note.Subject.{Subject}
@@ -10,12 +10,12 @@ use Rattle.whole_files.specs.declared.whole.WholeFault.{WholeFault}
 use Rattle.whole_files.specs.declared.whole.WholeFault.TheVariants as whole
 use Rattle.whole_files.specs.Claims.{Fits, WholeCause}
 use Rattle.nova_machine.specs.Machine.{MachineState}
-use Rattle.scp_commands.specs.Doing.{AllClosings, AreRefusalOf}
-use Rattle.nova_top.specs.declared.options.Options.{Options}
+use Rattle.command_session.specs.Doing.{AllClosings, AreRefusalOf}
+use Rattle.command_words.specs.declared.options.Options.{Options}
 use Rattle.nova_top.specs.declared.word_files.Refusal.{Refusal}
 use Rattle.nova_top.specs.declared.word_files.Refusal.TheVariants.{Unopened, BadKeys, OutOfMemory}
 use Rattle.nova_top.specs.declared.word_files.Beginning.{Beginning}
-use Rattle.nova_top.specs.Words.{options_of, keys_name, script_name}
+use Rattle.command_words.specs.Words.{options_of, keys_name, script_name}
 
 -- The file of that name was not read, with these notes: it is not there; or the one note that is of no closing is of a call
 -- on it; or it was opened, which gave an id, and is too long.

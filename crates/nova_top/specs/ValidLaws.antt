@@ -1,14 +1,14 @@
 -- What every state of the program is, where the words, the input, the files and what comes on lines are of bytes.
 use Rattle.std.specs.Prelude.{◌≡◌, ℕ, List, Option, IfSome}
 use Rattle.std.specs.List.{AllByRecursion}
-use Rattle.host_files.specs.Lists.{NamedBytes}
+use Rattle.file_traits.specs.Lists.{NamedBytes}
 use Rattle.file_commands.specs.Notes.{Note}
 use Rattle.expect_actions.specs.KeysFile.{Key}
 use Rattle.host_lines.specs.Traffic.{Ahead}
 use Rattle.nova_machine.specs.Valid.{AreBytes, ValidMachine, ValidLine, ValidAhead, DiskIsItsFile}
-use Rattle.scp_script.specs.Valid.{ValidSession}
-use Rattle.nova_top.specs.declared.options.Options.{Options}
-use Rattle.nova_top.specs.Words.{options_of}
+use Rattle.script_laws.specs.Valid.{ValidSession}
+use Rattle.command_words.specs.declared.options.Options.{Options}
+use Rattle.command_words.specs.Words.{options_of}
 use Rattle.nova_top.specs.Outside.{Outside, Left, Begins, start_of, opening, outcome}
 
 -- what is handed in is of bytes

@@ -8,7 +8,7 @@ ghost use Rattle.file_commands.specs.declared.note.Subject.TheVariants as subjec
 ghost use Rattle.whole_files.specs.Whole.{longest_file};
 ghost use Rattle.whole_files.specs.Claims.{said_of_bytes};
 ghost use Rattle.scp_script.specs.Loop.{AreKept};
-ghost use Rattle.nova_top.specs.Words.{texts_of, keys_name, script_name, script_words, FilesAreNamed};
+ghost use Rattle.command_words.specs.Words.{texts_of, keys_name, script_name, script_words, FilesAreNamed};
 ghost use Rattle.nova_top.specs.Outside.{keys_from, taken_keys, script_from, taken_script};
 ghost use Rattle.nova_top.specs.Program.{noted_call, ReadsFile, ComesOf, Takes, RefusalCause, as_file, BeginsAs};
 ghost use Rattle.nova_top.specs.Program.{OpensAs, AddsClosings, IsUnrefused};
@@ -18,11 +18,11 @@ ghost use Rattle.nova_top.specs.declared.word_files.Refusal.TheVariants.{OutOfMe
 ghost use Rattle.whole_files.specs.declared.whole.WholeFault.TheVariants as whole_faults;
 ghost use Rattle.nova_top.specs.Workload.{first_text};
 
-use crate::options::Options;
 use crate::workload::first_text;
+use command_words::Options;
 use expect_actions::{Keys, KeysFault};
 use file_commands::{FaultNote, Subject, keep};
-use host_files::Files;
+use file_traits::Files;
 use scp_commands::{DoFile, ScriptText};
 use scp_script::Opening;
 use std::alloc::{AllocError, Global};

@@ -1,6 +1,6 @@
 // Sessions one behind another, each over the files that the one before it has left.
 ghost use Rattle.std.specs.Prelude.{map};
-ghost use Rattle.nova_top.specs.Standard.{IsStandard};
+ghost use Rattle.command_words.specs.Standard.{IsStandard};
 
 use crate::callers::{lines_of, lines_stand};
 use crate::play::{files_of, files_stand, with_files};

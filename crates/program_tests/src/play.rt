@@ -11,7 +11,7 @@ ghost use Rattle.unit_trait.specs.declared.kind.Kind.TheVariants.{Ptp as punches
 ghost use Rattle.unit_trait.specs.declared.kind.Kind.TheVariants.{Tto as teleprinters};
 ghost use Rattle.unit_trait.specs.declared.kind.Kind.TheVariants.{Tti1 as second_keyboards, Tto1 as second_printers};
 ghost use Rattle.unit_trait.specs.Row.{initial_unit};
-ghost use Rattle.nova_top.specs.Standard.{IsStandard};
+ghost use Rattle.command_words.specs.Standard.{IsStandard};
 
 use crate::boxes::{push_four, push_two};
 use crate::callers::{lines_of, lines_stand};

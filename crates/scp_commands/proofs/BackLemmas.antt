@@ -1,14 +1,14 @@
 -- What a RESTORE that is done has put back.
 use Rattle.std.proofs.Common.{◌≡◌, ◌∙◌, ap, ℕ, Bool, List, Ok, Err, OnOk}
-use Rattle.host_files.specs.Lists.{NamedBytes}
+use Rattle.file_traits.specs.Lists.{NamedBytes}
 use Rattle.nova_machine.specs.Machine.{MachineState}
 use Rattle.state_file.specs.Listening.{with_port as ported_by}
 use Rattle.state_file.specs.Putting.{with_machine_of}
 use Rattle.scp_parser.specs.Command.{Request, Restore}
-use Rattle.scp_commands.specs.Live.{CommandState}
-use Rattle.scp_commands.specs.Nature.{IsUntold}
-use Rattle.scp_commands.specs.Reply.{Answer}
-use Rattle.scp_commands.specs.StateAnswers.{PutsBack, PutsSessionBack}
+use Rattle.command_session.specs.Live.{CommandState}
+use Rattle.command_session.specs.Nature.{IsUntold}
+use Rattle.command_session.specs.Reply.{Answer}
+use Rattle.state_commands.specs.StateAnswers.{PutsBack, PutsSessionBack}
 
 -- no other command that tells nothing is a RESTORE
 pub untold-back : (tells : Bool) (files : List NamedBytes) (r : Request) (answer : Answer) (old new : CommandState) → IsUntold r → PutsSessionBack tells files r answer old new

@@ -9,7 +9,7 @@ use Rattle.unit_files.specs.declared.modes.AttachMode.{AttachMode}
 use Rattle.unit_files.specs.Attachments.{Attachment, attachment_at}
 use Rattle.unit_files.specs.Buffer.{Buffer}
 use Rattle.unit_files.specs.Acts.{AttachSaid, Attached, UnitHasFile, OnlyWrites, NotThere, TooLong, CallFailed}
-use Rattle.host_files.specs.Lists.{NamedBytes, bytes_of, changed}
+use Rattle.file_traits.specs.Lists.{NamedBytes, bytes_of, changed}
 use Rattle.unit_files.specs.Acts.{Failure, DetachSaid, HadNone, StillHeld, Detached, attach_said, attach_files, detach_said, detach_said_of}
 use Rattle.unit_files.specs.Acts.{closing_said, flush_failure, flush_files, is_due_back, written_back}
 use Rattle.file_commands.specs.declared.note.Subject.{Subject}
@@ -32,53 +32,56 @@ use Rattle.scp_parser.specs.Command as request
 use Rattle.scp_examine.specs.declared.fault.ExamineFault.{ExamineFault}
 use Rattle.scp_examine.specs.Effect.{examine_fault, fault_of_deposit, tested}
 use Rattle.nova_machine.specs.Comes.{Output}
-use Rattle.scp_commands.specs.declared.next.Next.TheVariants.{Go, Ran, Do, Goto, Exit}
-use Rattle.scp_commands.specs.declared.fault.CommandFault.{CommandFault}
-use Rattle.scp_commands.specs.declared.fault.CommandFault.TheVariants.{OutOfRange, NoSuchName, FileFailed, PortFailed}
-use Rattle.scp_commands.specs.Live.{Live, Standing, standing}
-use Rattle.scp_commands.specs.Reply.{Answer, Reply, goes, says, refused}
-use Rattle.scp_commands.specs.Doing.{Does, IsExitAnswer}
-use Rattle.scp_commands.specs.RunEffects.{stop_line, run_answer, used_by, run_failure, ran, address_fits, started, run_from, stepped, step_of, reset_reply}
+use Rattle.command_session.specs.declared.next.Next.TheVariants.{Go, Ran, Do, Goto, Exit}
+use Rattle.command_session.specs.declared.fault.CommandFault.{CommandFault}
+use Rattle.command_session.specs.declared.fault.CommandFault.TheVariants.{OutOfRange, NoSuchName, FileFailed, PortFailed}
+use Rattle.command_session.specs.Live.{Live, Standing, standing}
+use Rattle.command_session.specs.Reply.{Answer, Reply, goes, says, refused}
+use Rattle.command_session.specs.Doing.{Does, IsExitAnswer}
+use Rattle.command_session.specs.RunEffects.{stop_line, run_answer, used_by, run_failure, ran, address_fits, started, run_from, stepped, step_of, reset_reply}
 use Rattle.expect_actions.specs.Expects.{most_expects}
 use Rattle.expect_actions.specs.Sends.{most_sends}
-use Rattle.scp_commands.specs.RunEffects.{last_address}
-use Rattle.scp_commands.specs.WatchEffects.{largest_count, text_of_quoted, lacks_room_for_break, can_be_expected}
-use Rattle.scp_commands.specs.WatchEffects.{break_reply, no_break_reply, expect_reply, no_expect_reply, send_reply, no_send_reply}
-use Rattle.scp_commands.specs.ListEffects.{lacks_device, examine_after, examine_reply, handed, deposit_after, deposit_reply}
-use Rattle.scp_commands.specs.FileEffects.{lacks_unit, mode_of, attach_answer, attached_machine, attach_with, attach_reply}
-use Rattle.scp_commands.specs.FileEffects.{detach_answer, detach_used, detached_machine, flushed_files, detach_with, detach_reply, detach_all_reply, detach_one_or_all, emptied_all, left_by, unported_by, kept_answer, emptied_reply}
+use Rattle.command_session.specs.RunEffects.{last_address}
+use Rattle.command_session.specs.WatchEffects.{largest_count, text_of_quoted, lacks_room_for_break, can_be_expected}
+use Rattle.command_session.specs.WatchEffects.{break_reply, no_break_reply, expect_reply, no_expect_reply, send_reply, no_send_reply}
+use Rattle.plain_commands.specs.ListEffects.{lacks_device, examine_after, examine_reply, handed, deposit_after, deposit_reply}
+use Rattle.command_session.specs.FileEffects.{lacks_unit, mode_of, attach_answer, attached_machine, attach_with, attach_reply}
+use Rattle.command_session.specs.FileEffects.{detach_answer, detach_used, detached_machine, flushed_files, detach_with, detach_reply, detach_all_reply, detach_one_or_all, emptied_all, left_by, unported_by, kept_answer, emptied_reply}
 use Rattle.file_commands.specs.AllUnits.{Emptied}
-use Rattle.scp_commands.specs.declared.next.Next.{Next}
+use Rattle.command_session.specs.declared.next.Next.{Next}
 use Rattle.unit_trait.specs.declared.kind.Kind.{Kind}
 use Rattle.host_lines.specs.Traffic.{Answer as LineAnswer, Peer, Replied, Quiet, Connected, Gave, HungUp, Failed, Took, listening}
 use Rattle.telnet_lines.specs.Line.{LineOf}
-use Rattle.scp_commands.specs.LineEffects.{is_terminal, terminal_line, is_port, listen_answer, listen_lines, listen_with, attach_line, attach_port_reply}
-use Rattle.scp_commands.specs.LineEffects.{with_port, detach_port_reply, disconnect_reply, show_line}
-use Rattle.scp_commands.specs.ShowEffects.{show_reply}
-use Rattle.scp_commands.specs.ExitEffects.{exit_reply}
-use Rattle.scp_commands.specs.SetEffects.{set_size_reply}
-use Rattle.scp_commands.specs.ScriptEffects.{test_answer, echo_reply, assert_reply, do_answer, do_reply, goto_reply}
-use Rattle.scp_commands.specs.WholeCalls.{whole_calls, write_calls, wrote_answer}
-use Rattle.scp_commands.specs.StateEffects.{unit_claim, flushed_with, save_by, save_reply, is_occupied, heard_live, listened_back, ported_back, restored_by, restored_as, restored_from, restore_reply}
-use Rattle.state_file.specs.declared.fault.StateFault.{StateFault}
+use Rattle.command_session.specs.LineEffects.{is_terminal, terminal_line, is_port, listen_answer, listen_lines, listen_with, attach_line, attach_port_reply}
+use Rattle.command_session.specs.LineEffects.{with_port, detach_port_reply, disconnect_reply, show_line}
+use Rattle.plain_commands.specs.ShowEffects.{show_reply}
+use Rattle.command_session.specs.ExitEffects.{exit_reply}
+use Rattle.plain_commands.specs.SetEffects.{set_size_reply}
+use Rattle.plain_commands.specs.ScriptEffects.{test_answer, echo_reply, assert_reply, goto_reply}
+use Rattle.host_commands.specs.DoEffects.{do_answer, do_reply}
+use Rattle.command_session.specs.WholeCalls.{whole_calls, write_calls, wrote_answer}
+use Rattle.state_commands.specs.StateEffects.{unit_claim, flushed_with, save_by, save_reply, heard_live, listened_back, ported_back, restored_by, restored_as, restored_from, restore_reply}
+use Rattle.command_session.specs.Occupied.{is_occupied}
+use Rattle.state_text.specs.declared.fault.StateFault.{StateFault}
 use Rattle.state_file.specs.Listening.{wants_port}
-use Rattle.state_file.specs.Parts.{State}
-use Rattle.state_file.specs.Reading.{reading}
-use Rattle.state_file.specs.Restoring.{FileRefusal}
-use Rattle.state_file.specs.Saving.{first_unsaved}
+use Rattle.state_text.specs.Parts.{State}
+use Rattle.state_text.specs.Reading.{reading}
+use Rattle.saved_files.specs.Restoring.{FileRefusal}
+use Rattle.saved_files.specs.Saving.{first_unsaved}
 use Rattle.state_file.specs.Session.{saved}
-use Rattle.state_file.specs.Text.{text}
-use Rattle.scp_commands.specs.TapeEffects.{tape_in, tape_answer, tape_machine, loaded_machine, load_answer, load_reply, can_dump, dump_of, dump_answer, dump_after, dump_reply}
+use Rattle.state_text.specs.Text.{text}
+use Rattle.command_session.specs.TapeEffects.{tape_in, tape_answer, tape_machine, loaded_machine, load_answer, load_reply, can_dump, dump_of, dump_answer, dump_after, dump_reply}
 use Rattle.binary_load.specs.declared.faults.LoadFault.{LoadFault}
 use Rattle.binary_load.specs.declared.faults.LoadFault.TheVariants as tape
 use Rattle.binary_load.specs.Tape.{Tape}
 use Rattle.whole_files.specs.Writing.{WriteSaid, AllWritten, WriteFailed, WriteAct, write_act}
-use Rattle.scp_commands.specs.Effect.{effect, Asked, does}
-use Rattle.scp_commands.specs.Nature.{nature}
-use Rattle.scp_commands.specs.Remains.{Remains}
-use Rattle.scp_commands.specs.Laws.{LeavesTraces, IsUntouched, RefusalsChangeNothing}
+use Rattle.scp_commands.specs.Effect.{effect, does}
+use Rattle.command_session.specs.Asked.{Asked}
+use Rattle.command_session.specs.Nature.{nature}
+use Rattle.command_session.specs.Remains.{Remains}
+use Rattle.scp_commands.specs.Traces.{LeavesTraces, IsUntouched}
 use Rattle.scp_commands.proofs.TraceLemmas.{files-kept}
-use Rattle.scp_commands.proofs.SaveLemmas.{copy-left}
+use Rattle.state_commands.proofs.SaveLemmas.{copy-left}
 
 -- what holds of a reply to a command that was given in that state, flushes the disk or does not, and leaves files changed
 -- only where it is refused with those faults
@@ -621,9 +624,3 @@ does-exit limit notes live r (Ok (Ran stop)) at tells before after h = tt
 does-exit limit notes live r (Ok (Do file)) at tells before after h = tt
 does-exit limit notes live r (Ok Goto) at tells before after h = tt
 does-exit limit notes live r (Err fault) at tells before after h = tt
-
-pub refusals-change-nothing : RefusalsChangeNothing
-refusals-change-nothing = record {
-  untouched = λ limit notes live r fault h. (fair-effect limit notes live r).untouched fault h;
-  all = λ limit notes live r fault h none. (fair-effect limit notes live r).all fault h none;
-}

@@ -2,8 +2,8 @@
 use Rattle.std.proofs.Common.{◌≡◌, ◌&&◌, ℕ, Bool, true, false, List, [], ◌∷◌, length, is_some, nat_lt, unwrap_or, Option, Some, None, Err, refl, ap, subst, ◌∙◌, if◌then◌else◌, arith}
 use Rattle.std.proofs.lemmas.Bool.Decides.{nat_tests}
 use Rattle.std.specs.Prelude.{bytes_eq}
-use Rattle.host_files.specs.declared.files.FileCall.TheVariants.{Opening, Length, Read}
-use Rattle.host_files.specs.Lists.{NamedBytes, find_file, bytes_of, with_file}
+use Rattle.file_traits.specs.declared.files.FileCall.TheVariants.{Opening, Length, Read}
+use Rattle.file_traits.specs.Lists.{NamedBytes, find_file, bytes_of, with_file}
 use Rattle.unit_trait.specs.declared.kind.UnitName.{UnitName}
 use Rattle.unit_files.specs.declared.modes.AttachMode.{AttachMode}
 use Rattle.unit_files.specs.declared.modes.AttachMode.TheVariants.{Any, MustExist, New, ReadOnly}
@@ -12,10 +12,10 @@ use Rattle.unit_files.specs.Acts.{Failure, AttachSaid, Attached, UnitHasFile, On
 use Rattle.unit_files.specs.Acts.{measured_as, reading_failure, read_whole, opened_said, opening_said, said_unless, attach_said, files_where, files_unless_opening, files_unless, attach_files}
 use Rattle.scp_parser.specs.Command as request
 use Rattle.file_commands.specs.declared.note.Subject.TheVariants as subject
-use Rattle.scp_commands.specs.declared.fault.CommandFault.{CommandFault}
-use Rattle.scp_commands.specs.declared.fault.CommandFault.TheVariants.{FileFailed}
-use Rattle.scp_commands.specs.FileEffects.{attach_answer}
-use Rattle.scp_commands.specs.Laws.{LeavesTraces}
+use Rattle.command_session.specs.declared.fault.CommandFault.{CommandFault}
+use Rattle.command_session.specs.declared.fault.CommandFault.TheVariants.{FileFailed}
+use Rattle.command_session.specs.FileEffects.{attach_answer}
+use Rattle.scp_commands.specs.Traces.{LeavesTraces}
 
 -- a refusal that is not of a failed call
 abbrev IsPlainRefusal : AttachSaid → Type 0

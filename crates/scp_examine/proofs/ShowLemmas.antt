@@ -2,7 +2,7 @@
 use Rattle.std.proofs.Common.{◌≡◌, ℕ, ◌+◌, ◌<◌, ◌≤◌, zero, suc, Bool, List, [], ◌∷◌, ◌++◌, length, get_or, take, drop, Option, Some, None, ap, sym, ◌∙◌, refl, subst, add-one, append_assoc, length-append, arith}
 use Rattle.std.proofs.Math.Seq.{take-suc, take-append-add, take-append-le}
 use Rattle.std.proofs.lemmas.List.{take-append-drop, append-nil}
-use Rattle.host_files.specs.Streams.{AddsPart}
+use Rattle.file_traits.specs.Streams.{AddsPart}
 use Rattle.nova_machine.specs.Machine.{MachineState}
 use Rattle.unit_trait.specs.declared.processor.CpuReg.{CpuReg}
 use Rattle.operand_forms.specs.declared.listing.Name.{Name}

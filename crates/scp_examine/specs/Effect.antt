@@ -2,7 +2,7 @@
 use Rattle.std.specs.Prelude.{◌≡◌, ℕ, Bool, List, [], ◌∷◌, ◌++◌, Option, Some, None, Result, Ok, Err, if◌then◌else◌}
 use Rattle.nova_memory.specs.Memory.{put}
 use Rattle.fault_counts.specs.Faults.{raised}
-use Rattle.host_files.specs.Streams.{AddsPart}
+use Rattle.file_traits.specs.Streams.{AddsPart}
 use Rattle.unit_list.specs.Bus.{with_register_in}
 use Rattle.nova_machine.specs.Machine.{MachineState}
 use Rattle.nova_machine.specs.Registers.{with_register}

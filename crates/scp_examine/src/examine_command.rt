@@ -1,12 +1,12 @@
 ghost use Rattle.std.specs.Prelude.{◌≡◌, IsTrue, OnErr, None};
 ghost use Rattle.fault_counts.specs.Faults.{CountsFault};
-ghost use Rattle.host_files.specs.Streams.{Puts};
+ghost use Rattle.file_traits.specs.Streams.{Puts};
 ghost use Rattle.scp_examine.specs.Effect.{ConsoleCause, Examines, FaultIs, examine_fault, examined};
 
 use crate::check::{condition_fault, items_fault};
 use crate::fault::ExamineFault;
 use crate::show::show_items;
-use host_files::{Failed, Sink};
+use file_traits::{Failed, Sink};
 use nova_machine::Machine;
 use operand_forms::Listing;
 use unit_trait::Unit;

@@ -1,7 +1,7 @@
 // What EXAMINE prints of the items of a list that has no fault.
 ghost use Rattle.std.specs.Prelude.{◌≡◌, ◌+◌, ◌≤◌, ◌<◌, ◌^◌, ◌∷◌, [], None, IsTrue};
 ghost use Rattle.fault_counts.specs.Faults.{CountsFault};
-ghost use Rattle.host_files.specs.Streams.{Puts};
+ghost use Rattle.file_traits.specs.Streams.{Puts};
 ghost use Rattle.scp_examine.specs.Shape.{shape_of};
 ghost use Rattle.scp_examine.specs.Places.{Cell, Register, UnitRegister, cells, places_of};
 ghost use Rattle.scp_examine.specs.Places.{registers_of, unit_registers};
@@ -12,7 +12,7 @@ ghost use Rattle.scp_examine.specs.Effect.{all_places, listed};
 use crate::item::{Named, named_by};
 use crate::place::{cell_line, is_chosen, register_line, unit_register_line, word_at};
 use crate::registers::register_count;
-use host_files::{Failed, Sink, put_all};
+use file_traits::{Failed, Sink, put_all};
 use nova_machine::Machine;
 use operand_forms::{Condition, Item, Name};
 use unit_trait::{CpuReg, Kind, Unit};

@@ -1,8 +1,8 @@
 -- Whether the actions of a stop fit in front of those that wait.
 use Rattle.std.proofs.Common.{◌≡◌, ℕ, ◌+◌, ◌<◌, Bool, true, false, List, [], ◌++◌, length, nat_lt, refl, ap, sym, ◌∙◌, subst, append-nil, if◌then◌else◌}
 use Rattle.std.proofs.lemmas.Bool.{ltb-true, lt-ltb}
-use Rattle.scp_commands.specs.declared.fault.CommandFault.TheVariants.{Full}
-use Rattle.scp_commands.specs.FaultText.{fault_text}
+use Rattle.command_session.specs.declared.fault.CommandFault.TheVariants.{Full}
+use Rattle.command_session.specs.FaultText.{fault_text}
 use Rattle.expect_actions.specs.Actions.{split}
 use Rattle.scp_script.specs.declared.progress.Progress.{Progress}
 use Rattle.scp_script.specs.declared.progress.Progress.TheVariants.{GoesOn}

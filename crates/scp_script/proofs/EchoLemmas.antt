@@ -1,8 +1,8 @@
 -- A line that is printed with its arguments filled in, piece by piece.
 use Rattle.std.proofs.Common.{◌≡◌, ℕ, ◌+◌, ◌≤◌, Bool, true, List, [], ◌∷◌, ◌++◌, length, drop, codes, Result, Ok, Err, OnOk, OnErr, if◌then◌else◌, ap, sym, ◌∙◌, subst, append-nil, append_assoc}
 use Rattle.std.proofs.lemmas.List.{drop-drop, drop_all}
-use Rattle.host_files.specs.Streams.{AddsPart, Puts}
-use Rattle.host_files.proofs.PutLemmas.{puts-then, part-first, part-second}
+use Rattle.file_traits.specs.Streams.{AddsPart, Puts}
+use Rattle.file_traits.proofs.PutLemmas.{puts-then, part-first, part-second}
 use Rattle.script_text.specs.Filling.{filled}
 use Rattle.script_text.proofs.FillingLemmas.{filled_none}
 use Rattle.scp_script.specs.Scripts.{Script, text_of_line, echo_text}

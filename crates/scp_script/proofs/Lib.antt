@@ -10,9 +10,4 @@ pub mod SessionLemmas
 pub mod LineLemmas
 pub mod NoteLemmas
 pub mod WholeLemmas
-pub mod LawLemmas
 pub mod ActionLemmas
-pub mod CoreLemmas
-pub mod ValidTexts
-pub mod ValidSessions
-pub mod ResumptionLemmas

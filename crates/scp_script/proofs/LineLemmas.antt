@@ -1,7 +1,7 @@
 -- One text of a session, by what it came to.
 use Rattle.std.proofs.Common.{Option, Some, None, ◌≡◌, inr, ℕ, ◌+◌, ◌-◌, ◌<◌, ◌≤◌, Bool, true, false, IsTrue, List, [], ◌∷◌, ◌++◌, length, take, drop, refl, ap, sym, ◌∙◌, subst, arith, append_assoc, append-nil, zero-add, add-zero, length-take-le, nat_le, if◌then◌else◌, Some, None, Ok, Err}
 use Rattle.std.proofs.lemmas.Bool.{le-leb, leb-false, cond_both}
-use Rattle.host_files.specs.Streams.{AddsPart}
+use Rattle.file_traits.specs.Streams.{AddsPart}
 use Rattle.observations.specs.Observations.{Observation, Prints, Reads, Trace, text_of, reads_of, sent_of, map_made}
 use Rattle.observations.specs.Cut.{ends, cut, cut_trace, sent_until, BreaksOff}
 use Rattle.observations.proofs.CutLemmas.{cut-refused, cut-failed-after, cut-whole, ends-refused, ends-failed, sent-whole}
@@ -11,12 +11,12 @@ use Rattle.nova_machine.specs.Comes.{Output}
 use Rattle.nova_machine.specs.LineChanges.{heard_with}
 use Rattle.nova_machine.proofs.Hearing.{heard-nothing}
 use Rattle.file_commands.specs.Notes.{Note, handed}
-use Rattle.scp_commands.specs.declared.next.Next.TheVariants.{Go, Ran, Do, Goto, Exit as ExitNext}
-use Rattle.scp_commands.specs.Live.{Standing, standing}
-use Rattle.scp_commands.specs.Reply.{Answer, Reply}
-use Rattle.scp_commands.specs.Doing.{IsSaid}
-use Rattle.scp_commands.specs.Effect.{Asked, asked}
-use Rattle.scp_commands.specs.Remains.{Remains, flushes_of, reader_of}
+use Rattle.command_session.specs.declared.next.Next.TheVariants.{Go, Ran, Do, Goto, Exit as ExitNext}
+use Rattle.command_session.specs.Live.{Standing, standing}
+use Rattle.command_session.specs.Reply.{Answer, Reply}
+use Rattle.command_session.specs.Doing.{IsSaid}
+use Rattle.command_session.specs.Asked.{Asked, asked}
+use Rattle.command_session.specs.Remains.{Remains, flushes_of, reader_of}
 use Rattle.scp_script.specs.declared.progress.Progress.{Progress}
 use Rattle.scp_script.specs.declared.progress.Progress.TheVariants.{GoesOn, IsOver}
 use Rattle.scp_script.specs.declared.progress.Finish.{Finish}

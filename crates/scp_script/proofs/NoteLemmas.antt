@@ -4,7 +4,7 @@ use Rattle.std.proofs.Math.Seq.{take-append_seam}
 use Rattle.expect_actions.specs.Actions.{first_written}
 use Rattle.fault_counts.specs.Faults.{raised}
 use Rattle.observations.specs.Observations.{Observation, Trace, text_of, reads_of, sent_of}
-use Rattle.host_files.specs.State.{FileState}
+use Rattle.file_traits.specs.State.{FileState}
 use Rattle.unit_files.specs.Attachments.{Held}
 use Rattle.file_commands.specs.declared.note.Subject.{Subject}
 use Rattle.file_commands.specs.declared.note.FaultNote.{FaultNote}
@@ -12,13 +12,13 @@ use Rattle.file_commands.specs.Notes.{CommandNote, Note, notes_said, numbered, h
 use Rattle.file_commands.proofs.Handing.{handed-own, dropped}
 use Rattle.nova_machine.specs.Comes.{Output}
 use Rattle.nova_machine.specs.LineChanges.{heard_with}
-use Rattle.scp_commands.specs.Live.{Live, standing, CommandState, Beyond}
-use Rattle.scp_commands.specs.Effect.{Asked, asked}
-use Rattle.scp_commands.specs.Remains.{Remains, reader_of}
-use Rattle.scp_commands.proofs.RemainLemmas.{remains}
+use Rattle.command_session.specs.Live.{Live, standing, CommandState, Beyond}
+use Rattle.command_session.specs.Asked.{Asked, asked}
+use Rattle.command_session.specs.Remains.{Remains, reader_of}
+use Rattle.command_session.proofs.RemainLemmas.{remains}
 use Rattle.unit_trait.specs.declared.kind.UnitName.{UnitName}
-use Rattle.scp_commands.specs.FileEffects.{emptied_all, emptied_live}
-use Rattle.scp_commands.specs.Doing.{Closes}
+use Rattle.command_session.specs.FileEffects.{emptied_all, emptied_live}
+use Rattle.command_session.specs.Doing.{Closes}
 use Rattle.scp_script.specs.declared.progress.CommandLoop.{CommandLoop}
 use Rattle.scp_script.specs.declared.progress.Progress.{Progress}
 use Rattle.scp_script.specs.declared.progress.Progress.TheVariants.{GoesOn, IsOver}

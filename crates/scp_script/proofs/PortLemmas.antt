@@ -1,17 +1,17 @@
 -- What texts leave of the ports and the connections of the outside.
 use Rattle.std.proofs.Common.{◌≡◌, ap, sym, subst, ℕ, Bool, IsTrue, List, Err}
-use Rattle.host_files.specs.Lists.{NamedBytes}
+use Rattle.file_traits.specs.Lists.{NamedBytes}
 use Rattle.host_lines.specs.Traffic.{Answer as LineAnswer}
 use Rattle.host_lines.specs.Told.{ahead_of}
 use Rattle.host_lines.specs.State.{LineState, parties}
 use Rattle.telnet_lines.specs.Line.{LineOf}
 use Rattle.scp_parser.specs.Command.{Request, AttachPort, Restore}
-use Rattle.scp_commands.specs.declared.fault.CommandFault.TheVariants.{OutOfMemory}
-use Rattle.scp_commands.specs.Live.{CommandState, beyond, live_in}
-use Rattle.scp_commands.specs.Reply.{Answer}
-use Rattle.scp_commands.specs.Doing.{IsRefused}
-use Rattle.scp_commands.specs.LinesLeft.{LinesLeft, IsUnlistened, ListenCause}
-use Rattle.scp_commands.proofs.PortLemmas.{left-same, seen-still}
+use Rattle.command_session.specs.declared.fault.CommandFault.TheVariants.{OutOfMemory}
+use Rattle.command_session.specs.Live.{CommandState, beyond, live_in}
+use Rattle.command_session.specs.Reply.{Answer}
+use Rattle.command_session.specs.Doing.{IsRefused}
+use Rattle.command_session.specs.LinesLeft.{LinesLeft, IsUnlistened, ListenCause}
+use Rattle.command_session.proofs.PortLemmas.{left-same, seen-still}
 
 -- nothing was asked of the lines
 pub left-kept : (tells : Bool) (s : LineState) (before after : List (LineOf ℕ)) → after ≡ before → LinesLeft tells s before s after

@@ -12,14 +12,14 @@ use Rattle.nova_memory.specs.Memory.{fits_size}
 use Rattle.nova_machine.specs.Seen.{attached_in}
 use Rattle.nova_machine.specs.Run.{run}
 use Rattle.nova_machine.specs.declared.machine.Stop.{Stop}
-use Rattle.state_file.specs.declared.fault.StateFault.{StateFault}
+use Rattle.state_text.specs.declared.fault.StateFault.{StateFault}
 use Rattle.state_file.specs.Listening.{wants_port}
-use Rattle.state_file.specs.Parts.{State}
-use Rattle.state_file.specs.Reading.{reading}
-use Rattle.state_file.specs.Restoring.{FileRefusal, first_refused}
-use Rattle.state_file.specs.Saving.{first_unsaved}
+use Rattle.state_text.specs.Parts.{State}
+use Rattle.state_text.specs.Reading.{reading}
+use Rattle.saved_files.specs.Restoring.{FileRefusal, first_refused}
+use Rattle.saved_files.specs.Saving.{first_unsaved}
 use Rattle.state_file.specs.Session.{saved}
-use Rattle.state_file.specs.Text.{text}
+use Rattle.state_text.specs.Text.{text}
 use Rattle.operand_forms.specs.declared.listing.Listing.{Listing}
 use Rattle.operand_forms.specs.declared.listing.Test.{Test}
 use Rattle.scp_parser.specs.declared.command.Shown.{Shown}
@@ -28,29 +28,30 @@ use Rattle.scp_parser.specs.Command.{Request}
 use Rattle.scp_parser.specs.Command as request
 use Rattle.scp_examine.specs.declared.fault.ExamineFault.{ExamineFault}
 use Rattle.scp_examine.specs.Effect.{examine_fault, fault_of_deposit, tested}
-use Rattle.scp_commands.specs.declared.next.Next.{Next}
-use Rattle.scp_commands.specs.declared.next.Next.TheVariants.{Go, Ran, Do, Goto, Exit}
-use Rattle.scp_commands.specs.declared.fault.CommandFault.TheVariants.{NoSuchName}
-use Rattle.scp_commands.specs.Live.{Live, Standing}
-use Rattle.scp_commands.specs.Reply.{Answer, Reply}
-use Rattle.scp_commands.specs.Doing.{Does}
-use Rattle.scp_commands.specs.RunEffects.{run_answer, run_failure, ran, address_fits, started, run_from, stepped, step_of, reset_reply}
-use Rattle.scp_commands.specs.ListEffects.{lacks_device, examine_after, examine_reply, handed, deposit_after, deposit_reply}
-use Rattle.scp_commands.specs.LineEffects.{is_terminal, terminal_line, is_port, listen_answer, attach_line, attach_port_reply, with_port, detach_port_reply, disconnect_reply, show_line}
-use Rattle.scp_commands.specs.FileEffects.{lacks_unit, mode_of, attach_answer, attach_reply}
-use Rattle.scp_commands.specs.FileEffects.{detach_answer, detach_reply, detach_all_reply, detach_one_or_all, emptied_all, kept_answer}
+use Rattle.command_session.specs.declared.next.Next.{Next}
+use Rattle.command_session.specs.declared.next.Next.TheVariants.{Go, Ran, Do, Goto, Exit}
+use Rattle.command_session.specs.declared.fault.CommandFault.TheVariants.{NoSuchName}
+use Rattle.command_session.specs.Live.{Live, Standing}
+use Rattle.command_session.specs.Reply.{Answer, Reply}
+use Rattle.command_session.specs.Doing.{Does}
+use Rattle.command_session.specs.RunEffects.{run_answer, run_failure, ran, address_fits, started, run_from, stepped, step_of, reset_reply}
+use Rattle.plain_commands.specs.ListEffects.{lacks_device, examine_after, examine_reply, handed, deposit_after, deposit_reply}
+use Rattle.command_session.specs.LineEffects.{is_terminal, terminal_line, is_port, listen_answer, attach_line, attach_port_reply, with_port, detach_port_reply, disconnect_reply, show_line}
+use Rattle.command_session.specs.FileEffects.{lacks_unit, mode_of, attach_answer, attach_reply}
+use Rattle.command_session.specs.FileEffects.{detach_answer, detach_reply, detach_all_reply, detach_one_or_all, emptied_all, kept_answer}
 use Rattle.expect_actions.specs.Expects.{most_expects}
 use Rattle.expect_actions.specs.Sends.{most_sends}
-use Rattle.scp_commands.specs.RunEffects.{last_address}
-use Rattle.scp_commands.specs.WatchEffects.{largest_count, text_of_quoted, lacks_room_for_break, can_be_expected}
-use Rattle.scp_commands.specs.WatchEffects.{break_reply, no_break_reply, expect_reply, no_expect_reply, send_reply, no_send_reply}
-use Rattle.scp_commands.specs.ShowEffects.{show_reply}
-use Rattle.scp_commands.specs.ExitEffects.{exit_reply}
-use Rattle.scp_commands.specs.SetEffects.{set_size_reply}
-use Rattle.scp_commands.specs.ScriptEffects.{test_answer, echo_reply, assert_reply}
-use Rattle.scp_commands.specs.TapeEffects.{tape_in, tape_answer, load_answer, load_reply, can_dump, dump_of, dump_answer, dump_reply}
-use Rattle.scp_commands.specs.WholeCalls.{whole_calls, write_calls, wrote_answer}
-use Rattle.scp_commands.specs.StateEffects.{unit_claim, flushed_with, save_by, save_reply, is_occupied, listened_back, ported_back, restored_by, restored_as, restored_from, restore_reply}
+use Rattle.command_session.specs.RunEffects.{last_address}
+use Rattle.command_session.specs.WatchEffects.{largest_count, text_of_quoted, lacks_room_for_break, can_be_expected}
+use Rattle.command_session.specs.WatchEffects.{break_reply, no_break_reply, expect_reply, no_expect_reply, send_reply, no_send_reply}
+use Rattle.plain_commands.specs.ShowEffects.{show_reply}
+use Rattle.command_session.specs.ExitEffects.{exit_reply}
+use Rattle.plain_commands.specs.SetEffects.{set_size_reply}
+use Rattle.plain_commands.specs.ScriptEffects.{test_answer, echo_reply, assert_reply}
+use Rattle.command_session.specs.TapeEffects.{tape_in, tape_answer, load_answer, load_reply, can_dump, dump_of, dump_answer, dump_reply}
+use Rattle.command_session.specs.WholeCalls.{whole_calls, write_calls, wrote_answer}
+use Rattle.state_commands.specs.StateEffects.{unit_claim, flushed_with, save_by, save_reply, listened_back, ported_back, restored_by, restored_as, restored_from, restore_reply}
+use Rattle.command_session.specs.Occupied.{is_occupied}
 use Rattle.scp_commands.specs.Effect.{effect}
 use Rattle.binary_load.specs.declared.faults.LoadFault.{LoadFault}
 use Rattle.binary_load.specs.Tape.{Tape}

@@ -2,10 +2,10 @@
 use Rattle.std.proofs.Common.{◌≡◌, ℕ, zero, suc, ◌-◌, ◌<◌, ◌≤◌, Bool, true, false, not, ◌||◌, nat_le, nat_lt, nat_eq, List, [], ◌∷◌, ◌++◌, length, drop, refl, ap, sym, ◌∙◌, arith, if◌then◌else◌, append_assoc, append-nil, Ok, Err}
 use Rattle.std.proofs.lemmas.Bool.{leb-true, le-leb, lt-leb, lt-ltb, cond_both}
 use Rattle.observations.specs.Observations.{Observation, Prints, Ended, after_made, sent_of}
-use Rattle.scp_commands.specs.declared.next.Next.TheVariants.{Go, Ran, Do, Goto, Exit}
+use Rattle.command_session.specs.declared.next.Next.TheVariants.{Go, Ran, Do, Goto, Exit}
 use Rattle.file_commands.specs.Notes.{handed}
-use Rattle.scp_commands.specs.Reply.{Answer}
-use Rattle.scp_commands.specs.Effect.{Asked, asked}
+use Rattle.command_session.specs.Reply.{Answer}
+use Rattle.command_session.specs.Asked.{Asked, asked}
 use Rattle.script_text.specs.Lines.{line_cost, first_line, command_line}
 use Rattle.scp_script.specs.Lines.{Arrival, InputEnds, Unpaid, LineComes, arrival}
 use Rattle.scp_script.specs.Scripts.{Script, still_open, cost_of_line, text_of_line, echo_text}

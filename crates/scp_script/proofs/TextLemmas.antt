@@ -18,18 +18,19 @@ use Rattle.script_text.specs.Lines.{lines_of}
 use Rattle.script_text.specs.Labels.{label_place}
 use Rattle.scp_parser.specs.Command.{Request, Attach}
 use Rattle.scp_parser.specs.Command as request
-use Rattle.scp_commands.specs.declared.next.Next.{Next}
-use Rattle.scp_commands.specs.declared.do_file.DoFile.{DoFile}
-use Rattle.scp_commands.specs.declared.next.Next.TheVariants.{Go, Ran, Do, Goto, Exit}
-use Rattle.scp_commands.specs.declared.fault.CommandFault.{CommandFault}
-use Rattle.scp_commands.specs.declared.fault.CommandFault.TheVariants as fault
-use Rattle.scp_commands.specs.Live.{Live, Standing, standing}
-use Rattle.scp_commands.specs.Reply.{Answer, Reply, refused, bare_answer}
-use Rattle.scp_commands.specs.FaultText.{fault_text}
-use Rattle.scp_commands.specs.Effect.{Asked, effect, does}
-use Rattle.scp_commands.specs.LineEffects.{is_terminal}
-use Rattle.scp_commands.specs.Nature.Telling.{Nothing, Ported}
-use Rattle.scp_commands.specs.Doing.{IsSaid, IsBrokenOff, Does, Did, told_by, IsTold}
+use Rattle.command_session.specs.declared.next.Next.{Next}
+use Rattle.command_session.specs.declared.do_file.DoFile.{DoFile}
+use Rattle.command_session.specs.declared.next.Next.TheVariants.{Go, Ran, Do, Goto, Exit}
+use Rattle.command_session.specs.declared.fault.CommandFault.{CommandFault}
+use Rattle.command_session.specs.declared.fault.CommandFault.TheVariants as fault
+use Rattle.command_session.specs.Live.{Live, Standing, standing}
+use Rattle.command_session.specs.Reply.{Answer, Reply, refused, bare_answer}
+use Rattle.command_session.specs.FaultText.{fault_text}
+use Rattle.command_session.specs.Asked.{Asked}
+use Rattle.scp_commands.specs.Effect.{effect, does}
+use Rattle.command_session.specs.LineEffects.{is_terminal}
+use Rattle.command_session.specs.Nature.Telling.{Nothing, Ported}
+use Rattle.command_session.specs.Doing.{IsSaid, IsBrokenOff, Does, Did, told_by, IsTold}
 use Rattle.scp_commands.proofs.EffectLemmas.{does-reads}
 use Rattle.scp_script.specs.declared.progress.Progress.{Progress}
 use Rattle.scp_script.specs.declared.progress.Progress.TheVariants.{GoesOn, IsOver}

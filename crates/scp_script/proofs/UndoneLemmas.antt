@@ -5,15 +5,15 @@ use Rattle.file_commands.specs.declared.note.Subject.{Subject}
 use Rattle.file_commands.specs.declared.note.FaultNote.{FaultNote}
 use Rattle.file_commands.specs.Notes.{Note, notes_said}
 use Rattle.scp_parser.specs.Command.{Request, Do, Load, Restore}
-use Rattle.scp_commands.specs.declared.fault.CommandFault.{CommandFault}
-use Rattle.scp_commands.specs.declared.fault.CommandFault.TheVariants as fault
+use Rattle.command_session.specs.declared.fault.CommandFault.{CommandFault}
+use Rattle.command_session.specs.declared.fault.CommandFault.TheVariants as fault
 use Rattle.nova_machine.specs.Comes.{Output}
-use Rattle.scp_commands.specs.Live.{Live}
-use Rattle.scp_commands.specs.Effect.{Asked}
-use Rattle.scp_commands.specs.FaultText.{fault_text}
-use Rattle.scp_commands.specs.Remains.{Remains, flushes_of, reader_of}
-use Rattle.scp_commands.specs.Doing.{says_files, IsShutNote, NotesRemain}
-use Rattle.scp_commands.proofs.CloseLemmas.{said-append}
+use Rattle.command_session.specs.Live.{Live}
+use Rattle.command_session.specs.Asked.{Asked}
+use Rattle.command_session.specs.FaultText.{fault_text}
+use Rattle.command_session.specs.Remains.{Remains, flushes_of, reader_of}
+use Rattle.command_session.specs.Doing.{says_files, IsShutNote, NotesRemain}
+use Rattle.command_session.proofs.CloseLemmas.{said-append}
 use Rattle.scp_script.specs.declared.progress.Progress.{Progress}
 use Rattle.scp_script.specs.declared.progress.Progress.TheVariants.{GoesOn, IsOver}
 use Rattle.scp_script.specs.declared.progress.Finish.TheVariants.{Exit, EndOfInput, FlushFailed, Commands, Console, Input, OutOfMemory}

@@ -2,7 +2,7 @@
 use Rattle.std.proofs.Common.{Option, ◌≡◌, inl, ℕ, zero, suc, ◌+◌, Bool, List, [], ◌∷◌, ◌++◌, length, drop, refl, ap, sym, ◌∙◌, subst, arith, append_assoc, append-nil, zero-add, length-append}
 use Rattle.std.proofs.lemmas.List.{drop-drop}
 use Rattle.fault_counts.specs.Faults.{raised}
-use Rattle.host_files.specs.State.{FileState}
+use Rattle.file_traits.specs.State.{FileState}
 use Rattle.unit_files.specs.Attachments.{Held}
 use Rattle.file_commands.proofs.Emptying.{unwritten-since}
 use Rattle.observations.specs.Observations.{Observation, Trace, after_made, text_of, reads_of, sent_of}
@@ -15,9 +15,9 @@ use Rattle.nova_machine.proofs.Hearing.{heard-nothing, heard-behind}
 use Rattle.file_commands.specs.declared.note.FaultNote.{FaultNote}
 use Rattle.file_commands.specs.Notes.{CommandNote, Note}
 use Rattle.expect_actions.specs.Watch.{WatchState}
-use Rattle.scp_commands.specs.Live.{Live}
-use Rattle.scp_commands.specs.Doing.{ComeBehind}
-use Rattle.scp_commands.proofs.RemainLemmas.{remains}
+use Rattle.command_session.specs.Live.{Live}
+use Rattle.command_session.specs.Doing.{ComeBehind}
+use Rattle.command_session.proofs.RemainLemmas.{remains}
 use Rattle.file_commands.proofs.Adding.{counted-both, counted-none}
 use Rattle.scp_script.specs.declared.progress.Progress.TheVariants.{GoesOn, IsOver}
 use Rattle.scp_script.specs.declared.progress.Finish.{Finish}

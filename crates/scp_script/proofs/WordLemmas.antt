@@ -4,7 +4,7 @@ use Rattle.std.proofs.lemmas.List.{take_more, take_all, take-append-le, length-a
 use Rattle.std.specs.Prelude.{string_bytes}
 use Rattle.std.specs.declared.string.String.{String}
 use Rattle.std.specs.declared.alloc.Global.{Global}
-use Rattle.scp_commands.specs.declared.do_file.DoFile.{DoFile}
+use Rattle.command_session.specs.declared.do_file.DoFile.{DoFile}
 use Rattle.scp_script.specs.declared.texts.Texts.{Texts}
 use Rattle.scp_script.specs.Scripts.{Script, begun, first_script}
 

@@ -5,11 +5,11 @@ use Rattle.expect_actions.specs.Actions.{split, most_actions}
 use Rattle.expect_actions.specs.Watch.{WatchState}
 use Rattle.nova_machine.specs.declared.machine.Stop.{Stop}
 use Rattle.nova_machine.specs.declared.machine.Stop.TheVariants.{Break, Expect}
-use Rattle.scp_commands.specs.declared.next.Next.TheVariants as next
-use Rattle.scp_commands.specs.declared.fault.CommandFault.TheVariants.{Full}
-use Rattle.scp_commands.specs.Effect.{Asked}
-use Rattle.scp_commands.specs.FaultText.{fault_text}
-use Rattle.scp_commands.specs.Reply.{Answer}
+use Rattle.command_session.specs.declared.next.Next.TheVariants as next
+use Rattle.command_session.specs.declared.fault.CommandFault.TheVariants.{Full}
+use Rattle.command_session.specs.Asked.{Asked}
+use Rattle.command_session.specs.FaultText.{fault_text}
+use Rattle.command_session.specs.Reply.{Answer}
 use Rattle.scp_script.specs.Scripts.{Script, is_assertion, behind_failure, scripts_behind}
 
 -- the texts that are still to come beside the input's: the actions that wait, and the scripts that are open, the innermost

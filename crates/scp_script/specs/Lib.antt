@@ -5,7 +5,3 @@ pub mod Actions
 pub mod Session
 pub mod Loop
 pub mod Perform
-pub mod Laws
-pub mod Core
-pub mod Valid
-pub mod Resumption

@@ -3,8 +3,8 @@
 use Rattle.std.specs.Prelude.{◌≡◌, ◌≢◌, ◌⊎◌, ℕ, ◌+◌, ◌^◌, ◌<◌, ◌≤◌, Bool, IsTrue, List, [], ◌++◌, length, Option, Some, None, Ok}
 use Rattle.std.specs.List.{AllByRecursion}
 use Rattle.fault_counts.specs.Faults.{raised}
-use Rattle.host_files.specs.declared.files.FileCall.TheVariants.{Closing}
-use Rattle.host_files.specs.Streams.{AddsPart}
+use Rattle.file_traits.specs.declared.files.FileCall.TheVariants.{Closing}
+use Rattle.file_traits.specs.Streams.{AddsPart}
 use Rattle.observations.specs.declared.exit_status.ExitStatus.{ExitStatus}
 use Rattle.observations.specs.declared.exit_status.ExitStatus.TheVariants as exits
 use Rattle.observations.specs.Status.{number_of}
@@ -12,25 +12,25 @@ use Rattle.observations.specs.Observations.{Trace, text_of, reads_of, sent_of}
 use Rattle.observations.specs.Cut.{ends, cut_trace, sent_until}
 use Rattle.file_commands.specs.AllUnits.{IsUnwritten}
 use Rattle.scp_parser.specs.Command.{Request, Do}
-use Rattle.scp_commands.specs.declared.next.Next.{Next}
-use Rattle.scp_commands.specs.declared.next.Next.TheVariants.{Exit as ExitNext}
-use Rattle.scp_commands.specs.declared.next.Next.TheVariants as next
-use Rattle.scp_commands.specs.declared.fault.CommandFault.{CommandFault}
-use Rattle.scp_commands.specs.declared.fault.CommandFault.TheVariants as fault
-use Rattle.host_files.specs.State.{FileState}
+use Rattle.command_session.specs.declared.next.Next.{Next}
+use Rattle.command_session.specs.declared.next.Next.TheVariants.{Exit as ExitNext}
+use Rattle.command_session.specs.declared.next.Next.TheVariants as next
+use Rattle.command_session.specs.declared.fault.CommandFault.{CommandFault}
+use Rattle.command_session.specs.declared.fault.CommandFault.TheVariants as fault
+use Rattle.file_traits.specs.State.{FileState}
 use Rattle.unit_files.specs.Attachments.{Held}
 use Rattle.file_commands.specs.declared.note.Subject.{Subject}
 use Rattle.file_commands.specs.declared.note.FaultNote.{FaultNote}
 use Rattle.file_commands.specs.Notes.{CommandNote, Note, numbered, Follow}
 use Rattle.file_commands.specs.Counts.{AreCounted}
-use Rattle.scp_commands.specs.Live.{Live, Standing, CommandState, Beyond, live_in}
+use Rattle.command_session.specs.Live.{Live, Standing, CommandState, Beyond, live_in}
 use Rattle.nova_machine.specs.Comes.{Output}
 use Rattle.nova_machine.specs.LineChanges.{heard_with}
-use Rattle.scp_commands.specs.Reply.{Answer, Reply}
-use Rattle.scp_commands.specs.FaultText.{fault_text}
-use Rattle.scp_commands.specs.Effect.{Asked, asked}
-use Rattle.scp_commands.specs.Remains.{Remains, flushes_of, reader_of}
-use Rattle.scp_commands.specs.Doing.{IsSaid, IsBrokenOff, Does, ComeBehind}
+use Rattle.command_session.specs.Reply.{Answer, Reply}
+use Rattle.command_session.specs.FaultText.{fault_text}
+use Rattle.command_session.specs.Asked.{Asked, asked}
+use Rattle.command_session.specs.Remains.{Remains, flushes_of, reader_of}
+use Rattle.command_session.specs.Doing.{IsSaid, IsBrokenOff, Does, ComeBehind}
 use Rattle.scp_script.specs.declared.progress.CommandLoop.{CommandLoop}
 use Rattle.scp_script.specs.declared.progress.Finish.{Finish}
 use Rattle.scp_script.specs.declared.progress.Finish.TheVariants.{Exit, EndOfInput, FlushFailed, Commands, Console, Input, OutOfMemory}

@@ -1,7 +1,7 @@
 -- What a whole session comes to, from its opening on.
 use Rattle.std.specs.Prelude.{◌≡◌, ℕ, ◌≤◌, Bool, true, List, [], ◌++◌, ◌+◌, drop}
 use Rattle.file_commands.specs.Notes.{Note}
-use Rattle.scp_commands.specs.Live.{Live, CommandState, Beyond, live_in}
+use Rattle.command_session.specs.Live.{Live, CommandState, Beyond, live_in}
 use Rattle.nova_machine.specs.Comes.{Output}
 use Rattle.nova_machine.specs.LineChanges.{heard_with}
 use Rattle.scp_script.specs.declared.perform_session.Opening.{Opening}

@@ -7,12 +7,12 @@ use Rattle.script_text.specs.Filling.{filled}
 use Rattle.script_text.specs.Labels.{label_place}
 use Rattle.script_text.specs.Arguments.{words_of}
 use Rattle.scp_parser.specs.Command.{Do, Goto}
-use Rattle.scp_commands.specs.declared.do_file.DoFile.{DoFile}
-use Rattle.scp_commands.specs.declared.fault.CommandFault.{CommandFault}
-use Rattle.scp_commands.specs.declared.fault.CommandFault.TheVariants.{TooDeep, NoLabel, NotInDo, AssertFailed}
-use Rattle.scp_commands.specs.declared.next.Next.TheVariants as next
-use Rattle.scp_commands.specs.Reply.{Answer, Reply}
-use Rattle.scp_commands.specs.Effect.{Asked}
+use Rattle.command_session.specs.declared.do_file.DoFile.{DoFile}
+use Rattle.command_session.specs.declared.fault.CommandFault.{CommandFault}
+use Rattle.command_session.specs.declared.fault.CommandFault.TheVariants.{TooDeep, NoLabel, NotInDo, AssertFailed}
+use Rattle.command_session.specs.declared.next.Next.TheVariants as next
+use Rattle.command_session.specs.Reply.{Answer, Reply}
+use Rattle.command_session.specs.Asked.{Asked}
 
 -- a script that is open: its text, and the place in it of its next line; its name and its arguments; whether its lines are
 -- printed, and whether its first failed command ends it

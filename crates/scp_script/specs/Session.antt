@@ -4,16 +4,17 @@ use Rattle.observations.specs.declared.exit_status.ExitStatus.TheVariants as exi
 use Rattle.observations.specs.Status.{number_of}
 use Rattle.observations.specs.Observations.{Observation, Prints, Reads, Trace, after_made, map_made}
 use Rattle.file_commands.specs.Notes.{CommandNote, Note, handed}
-use Rattle.scp_commands.specs.declared.next.Next.TheVariants.{Exit, Ran}
-use Rattle.scp_commands.specs.Live.{Live, Standing}
-use Rattle.scp_commands.specs.Reply.{Answer, Reply}
-use Rattle.scp_commands.specs.FaultText.{fault_text}
+use Rattle.command_session.specs.declared.next.Next.TheVariants.{Exit, Ran}
+use Rattle.command_session.specs.Live.{Live, Standing}
+use Rattle.command_session.specs.Reply.{Answer, Reply}
+use Rattle.command_session.specs.FaultText.{fault_text}
 use Rattle.unit_trait.specs.declared.kind.UnitName.{UnitName}
 use Rattle.expect_actions.specs.Watch.{forgotten}
 use Rattle.file_commands.specs.AllUnits.{Emptied}
-use Rattle.scp_commands.specs.FileEffects.{emptied_all, emptied_live}
-use Rattle.scp_commands.specs.Effect.{Asked, does, asked}
-use Rattle.scp_commands.specs.Remains.{flushes_of}
+use Rattle.command_session.specs.FileEffects.{emptied_all, emptied_live}
+use Rattle.command_session.specs.Asked.{Asked, asked}
+use Rattle.scp_commands.specs.Effect.{does}
+use Rattle.command_session.specs.Remains.{flushes_of}
 use Rattle.scp_script.specs.Scripts.{Script, still_open, cost_of_line, text_of_line, echo_text, past_line, checked, settled}
 use Rattle.scp_script.specs.Actions.{Texts, texts_of, text_of_stop, overflow_text, texts_behind}
 use Rattle.script_text.specs.Lines.{first_line, line_cost, has_lf}

@@ -4,7 +4,6 @@
 
 mod answers;
 mod command_loop;
-pub mod laws;
 mod line_reader;
 mod open_script;
 pub mod perform_session;
@@ -12,11 +11,5 @@ pub mod progress;
 mod script_stack;
 mod texts;
 
-pub use laws::{
-    actions_are_forgotten, ended_scripts_do_not_matter, lines_are_consumed,
-    restored_session_goes_on, same_core_same_future, saved_and_restored_go_on_alike,
-    session_goes_line_by_line, session_is_cut_behind_texts, sessions_end_alike,
-    sessions_stay_valid,
-};
 pub use perform_session::{Opening, perform};
 pub use progress::Finish;

@@ -3,7 +3,7 @@ ghost use Rattle.fault_counts.specs.Faults.{raised};
 ghost use Rattle.script_text.specs.Lines.{without_cr};
 ghost use Rattle.scp_script.specs.Reading.{is_charged, byte_cost};
 
-use host_files::{Source, next_byte};
+use file_traits::{Source, next_byte};
 use line_text::Text;
 use std::marker::Model;
 

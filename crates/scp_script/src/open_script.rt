@@ -1,9 +1,9 @@
 ghost use Rattle.std.specs.Prelude.{◌≡◌, ◌<◌, IsTrue, length, nat_lt, nat_le, is_some, Some, None, if◌then◌else◌};
 ghost use Rattle.fault_counts.specs.Faults.{CountsFault};
-ghost use Rattle.host_files.specs.Streams.{Puts};
+ghost use Rattle.file_traits.specs.Streams.{Puts};
 ghost use Rattle.script_text.specs.Filling.{filled};
 
-use host_files::{Failed, Sink, put_all};
+use file_traits::{Failed, Sink, put_all};
 use line_text::Text;
 use scp_commands::{DoFile, ScriptText};
 use script_text::{Arguments, Line, filled, find_label, line_cost, next_line, piece_at};

@@ -28,7 +28,7 @@ impl Model for ScriptStack {
 
 impl ScriptStack {
     ghost use Rattle.std.specs.Prelude.{is_ok, Ok, Err, MatchResult};
-    ghost use Rattle.scp_commands.specs.declared.fault.CommandFault.{CommandFault};
+    ghost use Rattle.command_session.specs.declared.fault.CommandFault.{CommandFault};
     ghost use Rattle.scp_script.specs.Scripts.{still_open, behind_failure, label_in, jumped_to};
 
     /// No script yet, and the room for ten.

@@ -4,7 +4,7 @@
 // (`reads=no` and `prompt=no`), the budget and how many bytes the console takes (`room`); and then what is printed
 // (`prints`), how the session finishes and how many reads have failed (`faults`).
 ghost use Rattle.std.specs.Prelude.{◌≡◌, List, IfOk, map, take};
-ghost use Rattle.host_files.specs.State.{Opened};
+ghost use Rattle.file_traits.specs.State.{Opened};
 ghost use Rattle.unit_files.specs.Open.{AllOpen};
 ghost use Rattle.unit_trait.specs.Kinds.{all_kinds};
 ghost use Rattle.unit_trait.specs.Row.{initial_unit};

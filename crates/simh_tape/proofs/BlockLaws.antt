@@ -5,16 +5,16 @@ use Rattle.std.proofs.lemmas.Bool.Decides.{nat_tests}
 use Rattle.std.proofs.lemmas.List.{take_at, drop_at, length-replicate}
 use Rattle.std.proofs.lemmas.Nat.{from_le_bytes-to_le_bytes_4}
 use Rattle.std.specs.Int.{w32, from_le_bytes}
-use Rattle.host_files.specs.Lists.{resized}
-use Rattle.host_files.specs.OneList.{longest_list}
+use Rattle.file_traits.specs.Lists.{resized}
+use Rattle.file_traits.specs.OneList.{longest_list}
 use Rattle.simh_tape.specs.Image.{WordAt, word_at, data_length, is_flagged, is_length_word, padded, block_size, next}
 use Rattle.simh_tape.specs.Image.WordAt.{AtEnd, CutShort, WordIs}
 use Rattle.simh_tape.specs.Image.Met.{BlockTo}
 use Rattle.simh_tape.specs.Writing.{word_bytes, block_bytes}
 use Rattle.simh_tape.specs.Laws.{HasBlock, BlocksAreReadBack}
 use Rattle.simh_tape.proofs.ItemLaws.{Between, if_false, next_block, block_next_previous}
-use Rattle.host_files.proofs.Shown.{shown_all}
-use Rattle.host_files.proofs.Tables.{both-and}
+use Rattle.file_traits.proofs.Shown.{shown_all}
+use Rattle.file_traits.proofs.Fronts.{both-and}
 
 length-word : (word : ℕ) → length (word_bytes word) ≡ 4
 length-word word = refl

@@ -1,9 +1,9 @@
 -- The calls that fail are calls that are made.
 use Rattle.std.proofs.Common.{◌≡◌, ℕ, ◌≤◌, Bool, true, false, min, List, length, Some, refl, sym, subst, arith, if◌then◌else◌}
 use Rattle.std.proofs.lemmas.Bool.{lt-ltb, ltb-true, le-leb, leb-true}
-use Rattle.host_files.specs.declared.files.FileCall.{FileCall}
-use Rattle.host_files.specs.declared.files.FileCall.TheVariants.{Opening, Length, Read, Write, SetLength, Closing}
-use Rattle.host_files.specs.OneList.{longest_list}
+use Rattle.file_traits.specs.declared.files.FileCall.{FileCall}
+use Rattle.file_traits.specs.declared.files.FileCall.TheVariants.{Opening, Length, Read, Write, SetLength, Closing}
+use Rattle.file_traits.specs.OneList.{longest_list}
 use Rattle.simh_tape.specs.Image.{Met, next, previous}
 use Rattle.simh_tape.specs.Image.Met.{BlockTo, CallFails}
 use Rattle.simh_tape.specs.Reading.{next_calls, previous_calls}

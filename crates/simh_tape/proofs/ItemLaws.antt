@@ -7,7 +7,7 @@ use Rattle.simh_tape.specs.Image.{block_after, item_after, next, block_before, i
 use Rattle.simh_tape.specs.Image.WordAt.{AtEnd, CutShort, WordIs}
 use Rattle.simh_tape.specs.Image.Met.{BlockTo, MarkTo, MediumEnds, AtLoadPoint, BadAt}
 use Rattle.simh_tape.specs.Laws.{ItemsReadTheSame}
-use Rattle.host_files.proofs.Tables.{both-and}
+use Rattle.file_traits.proofs.Fronts.{both-and}
 
 -- tests
 

@@ -1,7 +1,7 @@
 -- Items are met, and spacing ends, at places within the image.
 use Rattle.std.proofs.Common.{◌≡◌, ℕ, zero, suc, ◌+◌, ◌-◌, ◌^◌, ◌==◌, ◌≤◌, ◌&&◌, Bool, true, false, nat_lt, nat_le, min, List, length, Result, Ok, Err, refl, sym, arith, length-take, if◌then◌else◌}
 use Rattle.std.proofs.lemmas.Bool.{cond_both, le-leb}
-use Rattle.host_files.specs.OneList.{longest_list, shown}
+use Rattle.file_traits.specs.OneList.{longest_list, shown}
 use Rattle.simh_tape.specs.declared.items.TapeFault.{TapeFault}
 use Rattle.simh_tape.specs.declared.spacing.Spaced.{Spaced}
 use Rattle.simh_tape.specs.Image.{WordAt, Met, word_at, is_word, data_length, is_flagged, is_length_word, padded, block_size}

@@ -1,7 +1,7 @@
 -- Spacing, an item at a time.
 use Rattle.std.proofs.Common.{◌≡◌, ℕ, suc, ◌+◌, ◌<◌, nat_lt, Bool, true, false, List, Result, Ok, Err, refl, sym, ap, ◌∙◌, arith}
 use Rattle.std.proofs.lemmas.Bool.{lt-ltb}
-use Rattle.host_files.specs.declared.files.FileCall.{FileCall}
+use Rattle.file_traits.specs.declared.files.FileCall.{FileCall}
 use Rattle.unit_trait.specs.declared.calls.TapeEnd.TheVariants.{Plain, Mark, Medium, LoadPoint}
 use Rattle.simh_tape.specs.declared.items.Item.{Item}
 use Rattle.simh_tape.specs.declared.items.Item.TheVariants.{Block, EndOfMedium}
@@ -13,7 +13,7 @@ use Rattle.simh_tape.specs.Image.{Met}
 use Rattle.simh_tape.specs.Image.Met.{BlockTo, MarkTo, MediumEnds, AtLoadPoint, BadAt}
 use Rattle.simh_tape.specs.Reading.{item_said, said, failure}
 use Rattle.simh_tape.specs.Spacing.{item_from, item_calls, item_act, space_over, space_from, space_calls, space_act}
-use Rattle.host_files.proofs.Tables.{both-and}
+use Rattle.file_traits.proofs.Fronts.{both-and}
 use Rattle.simh_tape.proofs.ItemLaws.{if_true}
 use Rattle.simh_tape.proofs.CallLemmas.{call-made, made-before}
 

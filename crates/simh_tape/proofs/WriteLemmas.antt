@@ -3,7 +3,7 @@ use Rattle.std.specs.Borrow.{Bor}
 use Rattle.std.proofs.Common.{◌≡◌, ℕ, ◌+◌, ◌<◌, ◌≤◌, List, [], ◌++◌, length, take, drop, get_or, ap, sym, ◌∙◌, arith, length-append, length-drop, append_assoc}
 use Rattle.std.proofs.lemmas.List.{drop_more, drop_all, drop_at, drop-drop, take-append-le, take_all}
 use Rattle.std.proofs.Math.Seq.{take-add}
-use Rattle.host_files.specs.Streams.{joined}
+use Rattle.file_traits.specs.Streams.{joined}
 
 -- the piece that comes next, and those behind it
 pub next_piece : (pieces : List (Bor (List ℕ))) (i : ℕ) (default : Bor (List ℕ)) (left : List ℕ) → i < length pieces →

@@ -1,7 +1,7 @@
 -- Tape images as lists of bytes: "SIMH Magtape Representation and Handling", sections on the format and on its items.
 use Rattle.std.specs.Prelude.{ℕ, ◌+◌, ◌-◌, ◌/◌, ◌%◌, ◌^◌, ◌==◌, ◌&&◌, nat_le, nat_lt, min, Bool, false, List, ◌++◌, length, take, drop, if◌then◌else◌}
 use Rattle.std.specs.Int.{w32, from_le_bytes}
-use Rattle.host_files.specs.declared.files.FileCall.{FileCall}
+use Rattle.file_traits.specs.declared.files.FileCall.{FileCall}
 
 -- what stands at a place: nothing, less than a word, or a word
 pub data WordAt : Type 0 where

@@ -1,6 +1,6 @@
 -- Laws of tape images.
 use Rattle.std.specs.Prelude.{ℕ, suc, ◌≡◌, ◌+◌, ◌<◌, ◌≤◌, ◌^◌, ◌↔◌, Bool, true, false, List, length, take, drop, Ok}
-use Rattle.host_files.specs.OneList.{longest_list, shown}
+use Rattle.file_traits.specs.OneList.{longest_list, shown}
 use Rattle.unit_trait.specs.declared.calls.TapeEnd.TheVariants.{Plain, Mark}
 use Rattle.simh_tape.specs.Image.{block_size, next, previous}
 use Rattle.simh_tape.specs.Image.Met.{BlockTo, MarkTo}

@@ -1,6 +1,6 @@
 -- What the parts of a reading say.
 use Rattle.std.specs.Prelude.{ℕ, ◌+◌, ◌≤◌}
-use Rattle.host_files.specs.OneList.{longest_list}
+use Rattle.file_traits.specs.OneList.{longest_list}
 use Rattle.simh_tape.specs.declared.words.Word.{Word}
 use Rattle.simh_tape.specs.declared.words.Word.TheVariants.{Nothing, Cut, Is}
 use Rattle.simh_tape.specs.Image.{WordAt}

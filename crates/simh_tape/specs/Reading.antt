@@ -1,9 +1,9 @@
 -- What a reading of one item says.
 use Rattle.std.specs.Prelude.{ℕ, ◌+◌, ◌^◌, ◌≡◌, ◌<◌, ◌≤◌, nat_lt, nat_le, Bool, true, false, not, IsTrue, List, take, drop, min, length, Option, Some, None, Result, Ok, Err, if◌then◌else◌}
 use Rattle.fault_counts.specs.Faults.{raised}
-use Rattle.host_files.specs.declared.files.FileCall.{FileCall}
-use Rattle.host_files.specs.declared.files.FileCall.TheVariants.{Opening, Length, Read, Write, SetLength, Closing}
-use Rattle.host_files.specs.OneList.{longest_list}
+use Rattle.file_traits.specs.declared.files.FileCall.{FileCall}
+use Rattle.file_traits.specs.declared.files.FileCall.TheVariants.{Opening, Length, Read, Write, SetLength, Closing}
+use Rattle.file_traits.specs.OneList.{longest_list}
 use Rattle.simh_tape.specs.declared.items.Item.{Item}
 use Rattle.simh_tape.specs.declared.items.Item.TheVariants.{Block, Mark, EndOfMedium, LoadPoint}
 use Rattle.simh_tape.specs.declared.items.TapeFault.{TapeFault}

@@ -1,7 +1,7 @@
 -- Spacing: passing over blocks.
 use Rattle.std.specs.Prelude.{ℕ, zero, suc, ◌+◌, ◌≤◌, ◌&&◌, nat_lt, Bool, List, Option, Some, None, Result, Ok, Err, if◌then◌else◌}
-use Rattle.host_files.specs.declared.files.FileCall.{FileCall}
-use Rattle.host_files.specs.OneList.{longest_list}
+use Rattle.file_traits.specs.declared.files.FileCall.{FileCall}
+use Rattle.file_traits.specs.OneList.{longest_list}
 use Rattle.unit_trait.specs.declared.calls.TapeEnd.TheVariants.{Plain, Mark, Medium, LoadPoint}
 use Rattle.simh_tape.specs.declared.items.TapeFault.{TapeFault}
 use Rattle.simh_tape.specs.declared.items.TapeFault.TheVariants.{BadImage, Failed}

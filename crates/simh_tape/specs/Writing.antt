@@ -1,9 +1,9 @@
 -- What is written: the bytes of an item, and the image behind a call.
 use Rattle.std.specs.Prelude.{ℕ, ◌%◌, ◌≡◌, List, ◌++◌, length, take, replicate, Result, Ok, Err}
 use Rattle.std.specs.Int.{w32, to_le_bytes}
-use Rattle.host_files.specs.declared.files.FileCall.{FileCall}
-use Rattle.host_files.specs.declared.files.FileCall.TheVariants.{Opening, Length, Read, Write, SetLength, Closing}
-use Rattle.host_files.specs.Lists.{resized}
+use Rattle.file_traits.specs.declared.files.FileCall.{FileCall}
+use Rattle.file_traits.specs.declared.files.FileCall.TheVariants.{Opening, Length, Read, Write, SetLength, Closing}
+use Rattle.file_traits.specs.Lists.{resized}
 use Rattle.simh_tape.specs.declared.writing.PutFault.{PutFault}
 
 -- the bytes of a word, the lowest first

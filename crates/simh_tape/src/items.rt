@@ -1,4 +1,4 @@
-use host_files::FileCall;
+use file_traits::FileCall;
 
 /// What was read at a place of an image. The `place` of an item is the place behind it, in the direction of reading.
 #[derive(Clone, Copy, Debug, PartialEq, Eq)]

@@ -1,12 +1,12 @@
 ghost use Rattle.std.specs.Prelude.{◌≡◌, ◌≤◌, ◌+◌, ◌-◌, length, IsTrue, true, false, None};
-ghost use Rattle.host_files.specs.OneList.{longest_list, shown};
+ghost use Rattle.file_traits.specs.OneList.{longest_list, shown};
 ghost use Rattle.simh_tape.specs.Image.{block_after, block_before, ending_at, item_before};
 ghost use Rattle.simh_tape.specs.Reading.{said, failure, next_act, previous_act, NextData, PreviousData, KeepsBuffer, AnswerWithin};
 ghost use Rattle.simh_tape.specs.Reading.{FailsReading, WhereFailed, CountsFailed};
 
 use crate::items::{Item, TapeFault};
 use crate::words::{Word, is_length_word, read_data, read_word};
-use host_files::{Bytes, Failed, FileCall};
+use file_traits::{Bytes, Failed, FileCall};
 
 /// Reads the item behind a place, and the first data of a block, as much as fits, into the front of `into`. At the
 /// largest place, 67108864, the medium ends, and no call is made.

@@ -1,11 +1,11 @@
 ghost use Rattle.std.specs.Prelude.{◌≡◌, ◌≤◌, IsTrue};
-ghost use Rattle.host_files.specs.OneList.{longest_list, shown};
+ghost use Rattle.file_traits.specs.OneList.{longest_list, shown};
 ghost use Rattle.simh_tape.specs.Reading.{said, failure, AnswerWithin, FailsReading, CountsFailed};
 ghost use Rattle.simh_tape.specs.Spacing.{item_act, space_act, SpacedWithin};
 
 use crate::items::{Item, TapeFault};
 use crate::reading::{read_next, read_previous};
-use host_files::Bytes;
+use file_traits::Bytes;
 use unit_trait::TapeEnd;
 
 /// Where spacing ended: the place of the tape then, and how many blocks it has passed.

@@ -1,12 +1,12 @@
 ghost use Rattle.std.specs.Prelude.{◌≡◌, ℕ, ◌+◌, ◌-◌, ◌*◌, ◌<◌, ◌≤◌, ◌^◌, length, min, take, drop, IsTrue, IfOk, IfErr};
 ghost use Rattle.fault_counts.specs.Faults.{CountsFault};
-ghost use Rattle.host_files.specs.FileCalls.{Reads};
-ghost use Rattle.host_files.specs.OneList.{longest_list, shown};
+ghost use Rattle.file_traits.specs.FileCalls.{Reads};
+ghost use Rattle.file_traits.specs.OneList.{longest_list, shown};
 ghost use Rattle.simh_tape.specs.Image.{word_at, is_length_word, with_front};
 ghost use Rattle.simh_tape.specs.Pieces.{word_said, WordEnds};
 
 use byteorder::{ByteOrder, LittleEndian};
-use host_files::{Bytes, Failed};
+use file_traits::{Bytes, Failed};
 
 /// The place behind the last byte that can be read: 64 MiB.
 const LAST_PLACE: u64 = 67_108_864;

@@ -1,14 +1,14 @@
 ghost use Rattle.std.specs.Prelude.{◌≡◌, ℕ, ◌+◌, ◌*◌, ◌<◌, ◌≤◌, ◌^◌, ◌++◌, length, take, IsTrue, IfOk, IfErr};
 ghost use Rattle.fault_counts.specs.Faults.{CountsFault};
-ghost use Rattle.host_files.specs.FileCalls.{written_count};
-ghost use Rattle.host_files.specs.declared.files.FileCall.TheVariants.{SetLength, Write};
-ghost use Rattle.host_files.specs.OneList.{longest_list};
-ghost use Rattle.host_files.specs.Streams.{joined};
+ghost use Rattle.file_traits.specs.FileCalls.{written_count};
+ghost use Rattle.file_traits.specs.declared.files.FileCall.TheVariants.{SetLength, Write};
+ghost use Rattle.file_traits.specs.OneList.{longest_list};
+ghost use Rattle.file_traits.specs.Streams.{joined};
 ghost use Rattle.simh_tape.specs.Image.{block_size};
 ghost use Rattle.simh_tape.specs.Writing.{word_bytes, block_bytes, mark_bytes, after_writing, after_erasing, part_written, FailsWriting};
 
 use byteorder::{ByteOrder, LittleEndian};
-use host_files::{Bytes, Failed, FileCall, WriteFault};
+use file_traits::{Bytes, Failed, FileCall, WriteFault};
 
 /// A call on the image that failed, and how many bytes of the item were written then.
 #[derive(Clone, Copy, Debug, PartialEq, Eq)]

@@ -1,12 +1,14 @@
 -- Whose refusal that of a session is, and what it leaves of the lines.
 use Rattle.std.proofs.Common.{◌≡◌, inl, inr, ℕ, Bool, true, List, Err, refl}
+use Rattle.file_traits.specs.State.{FileState}
 use Rattle.host_lines.specs.State.{LineState}
 use Rattle.telnet_lines.specs.Line.{LineOf}
-use Rattle.state_file.specs.declared.file_faults.RestoreFault.{RestoreFault}
-use Rattle.state_file.specs.declared.file_faults.RestoreFault.TheVariants as fault
+use Rattle.saved_files.specs.declared.file_faults.RestoreFault.{RestoreFault}
+use Rattle.saved_files.specs.declared.file_faults.RestoreFault.TheVariants as fault
 use Rattle.state_file.specs.Listening.{IsHeardOn, IsPortFault, LeavesLines, wants_port}
-use Rattle.state_file.specs.Parts.{FilePart}
-use Rattle.state_file.specs.Restoring.{IsOfThese, IsOfSession}
+use Rattle.state_text.specs.Parts.{FilePart}
+use Rattle.saved_files.specs.RestoreCauses.{IsCompared, OpeningsStand, SessionCause}
+use Rattle.saved_files.specs.Restoring.{IsOfThese, IsOfSession}
 
 -- ---- behind the files
 
@@ -47,3 +49,22 @@ no-port tells port lines (fault.Changed unit) old new is wanted heard = absurd i
 no-port tells port lines (fault.Failed f) old new is wanted heard = absurd is
 no-port tells port lines fault.Port old new is wanted heard = (wanted, heard wanted)
 no-port tells port lines fault.OutOfMemory old new is wanted heard = inr (wanted, heard wanted)
+
+-- a refused port is no changed file
+pub port-compared : (force : Bool) (e : RestoreFault) → IsPortFault e → IsCompared force (Err e)
+port-compared force (fault.Failed f) is = tt
+port-compared force (fault.NoFile unit) is = tt
+port-compared force (fault.TooLong unit) is = tt
+port-compared force (fault.Changed unit) is = absurd is
+port-compared force fault.Port is = tt
+port-compared force fault.OutOfMemory is = tt
+
+-- what it leaves of the counts of files
+pub port-cause : (tells : Bool) (e : RestoreFault) (old new : FileState) → IsPortFault e → OpeningsStand tells old new
+    → SessionCause tells (Err e) old new
+port-cause tells (fault.Failed f) old new is h = absurd is
+port-cause tells (fault.NoFile unit) old new is h = absurd is
+port-cause tells (fault.TooLong unit) old new is h = absurd is
+port-cause tells (fault.Changed unit) old new is h = absurd is
+port-cause tells fault.Port old new is h = h
+port-cause tells fault.OutOfMemory old new is h = tt

@@ -19,9 +19,9 @@ use Rattle.nova_machine.specs.Core.{IsAmong}
 use Rattle.nova_machine.specs.Machine.{MachineState}
 use Rattle.nova_machine.specs.Seen.{unnumbered, erased, Beside}
 use Rattle.unit_files.specs.Attachments.{Held, attachments_of, no_attachments}
-use Rattle.state_file.specs.declared.saved.SavedUnit.{SavedUnit}
-use Rattle.state_file.specs.declared.saved.SavedEvent.{SavedEvent}
-use Rattle.state_file.specs.Parts.{unit_in, MachinePart, State}
+use Rattle.state_text.specs.declared.saved.SavedUnit.{SavedUnit}
+use Rattle.state_text.specs.declared.saved.SavedEvent.{SavedEvent}
+use Rattle.state_text.specs.Parts.{unit_in, MachinePart, State}
 use Rattle.state_file.specs.Putting.{with_machine_of, IsSeenAs, IsPutBack}
 use Rattle.state_file.specs.Listening.{with_port, AreClosed}
 use Rattle.host_lines.specs.Traffic.{Peer}
@@ -29,12 +29,13 @@ use Rattle.host_lines.specs.Told.{ahead_of}
 use Rattle.host_lines.specs.State.{LineState}
 use Rattle.telnet_lines.specs.Line.{LineOf, unconnected}
 use Rattle.telnet_lines.specs.Joined.{seen_line}
-use Rattle.state_file.specs.Restoring.{with_all}
-use Rattle.state_file.specs.PutBack.{is_set, cpu_from, interrupts_from, memory_from, unit_from, event_from, held_from, machine_from, lines_from, watch_from}
-use Rattle.state_file.specs.Ranges.{kind_at, standard_kinds, is_position, is_event_of}
-use Rattle.state_file.specs.Reading.{next_number, with_event}
+use Rattle.saved_files.specs.Restoring.{with_all}
+use Rattle.state_file.specs.PutBack.{is_set, cpu_from, interrupts_from, memory_from, unit_from, event_from, held_from, machine_from, lines_from}
+use Rattle.state_text.specs.SavedWatch.{watch_from}
+use Rattle.state_text.specs.Ranges.{kind_at, standard_kinds, is_position, is_event_of}
+use Rattle.state_text.specs.Reading.{next_number, with_event}
 use Rattle.state_file.specs.SavedValid.{AreStandard}
-use Rattle.state_file.specs.Valid.{Follow, IsUnit, IsEvent}
+use Rattle.state_text.specs.Valid.{Follow, IsUnit, IsEvent}
 use Rattle.state_file.proofs.PutBackMachineLemmas.{ten-standard, among-ten, events-sound}
 
 -- ---- all units

@@ -8,15 +8,14 @@ use Rattle.unit_list.specs.Bus.{AllFit, kinds_of}
 use Rattle.nova_memory.specs.Memory.{IsMemory, IsSize}
 use Rattle.nova_machine.specs.Core.{IsCore}
 use Rattle.nova_machine.specs.Machine.{MachineState}
-use Rattle.state_file.specs.Parts.{FilePart}
-use Rattle.state_file.specs.Ranges.{standard_kinds, register_count, most_events}
-use Rattle.state_file.specs.Valid.{UnitsFit, FilesFit, MachineFits}
-use Rattle.state_file.specs.SavingOne.{AreNamed}
+use Rattle.state_text.specs.Parts.{FilePart}
+use Rattle.state_text.specs.Ranges.{standard_kinds, register_count, most_events}
+use Rattle.state_text.specs.Valid.{UnitsFit, FilesFit, MachineFits}
+use Rattle.saved_files.specs.SavingOne.{AreNamed}
 use Rattle.state_file.specs.Session.{saved_unit, saved_event, saved_machine}
 use Rattle.state_file.specs.SavedValid.{AreStandard}
-use Rattle.state_file.proofs.MachineLaws.{few_registers}
-use Rattle.state_file.proofs.PutBackLemmas.{size-back}
-use Rattle.state_file.proofs.SavedLemmas.{as-many, few-events}
+use Rattle.state_text.proofs.MachineLaws.{few_registers}
+use Rattle.state_file.proofs.TakenSizes.{size-back, as-many, few-events}
 
 less-than : (n m most : ℕ) → n ≡ m → m < most → n < most
 less-than n m most same less = omega (arith, same, less)

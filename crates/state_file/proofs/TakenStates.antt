@@ -1,6 +1,6 @@
 -- What was taken of a session is what is saved of it.
 use Rattle.std.proofs.Common.{◌≡◌, ℕ, List, map, Option, refl, sym, ap, ◌∙◌}
-use Rattle.host_files.specs.Lists.{NamedBytes}
+use Rattle.file_traits.specs.Lists.{NamedBytes}
 use Rattle.host_lines.specs.Traffic.{Answer}
 use Rattle.host_lines.specs.State.{LineState}
 use Rattle.telnet_lines.specs.Joined.{seen_line}
@@ -10,9 +10,10 @@ use Rattle.expect_actions.specs.Watch.{WatchState}
 use Rattle.nova_machine.specs.Machine.{MachineState, with_attached_files}
 use Rattle.nova_machine.specs.Seen.{erased, seen, beside, attached_in}
 use Rattle.nova_machine.proofs.Serving.{erased-attached}
-use Rattle.state_file.specs.Parts.{State}
-use Rattle.state_file.specs.Saving.{file_places, saved_files}
-use Rattle.state_file.specs.Session.{saved_machine, saved_port, saved_watch, saved}
+use Rattle.state_text.specs.Parts.{State}
+use Rattle.saved_files.specs.Saving.{file_places, saved_files}
+use Rattle.state_file.specs.Session.{saved_machine, saved_port, saved}
+use Rattle.state_text.specs.SavedWatch.{saved_watch}
 
 -- neither what is attached nor the disk's copy is saved with the machine
 same-machine : (m : MachineState) (a : AttachedFiles) → saved_machine m ≡ saved_machine (erased (with_attached_files m a))

@@ -7,8 +7,8 @@ use Rattle.host_lines.specs.declared.lines.ListenFault.TheVariants as listen
 use Rattle.host_lines.specs.LineCalls.{Listens, ports_after, listen_faults}
 use Rattle.host_lines.specs.State.{LineState, parties}
 use Rattle.telnet_lines.specs.Line.{LineOf, unconnected}
-use Rattle.state_file.specs.declared.file_faults.RestoreFault.{RestoreFault}
-use Rattle.state_file.specs.declared.file_faults.RestoreFault.TheVariants as fault
+use Rattle.saved_files.specs.declared.file_faults.RestoreFault.{RestoreFault}
+use Rattle.saved_files.specs.declared.file_faults.RestoreFault.TheVariants as fault
 
 -- whether a port is listened on: it is not 0, and there is a line for it
 abbrev pub wants_port : {P : Type 0} → ℕ → List (LineOf P) → Bool

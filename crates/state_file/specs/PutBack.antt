@@ -1,11 +1,9 @@
 -- What is put back of a saved session.
 use Rattle.std.specs.Prelude.{◌≡◌, ◌≢◌, ℕ, zero, suc, ◌-◌, ◌*◌, ◌^◌, ◌==◌, Bool, false, List, [], ◌∷◌, ◌++◌, length, map, replicate, Option, Some, None, option_map}
 use Rattle.std.specs.List.{AllByRecursion}
-use Rattle.host_files.specs.Lists.{NamedBytes}
-use Rattle.host_lines.specs.Traffic.{Peer, Answer}
-use Rattle.host_lines.specs.State.{LineState}
-use Rattle.telnet_lines.specs.Line.{LineOf, unconnected, IsSettled}
-use Rattle.telnet_lines.specs.Joined.{seen_line}
+use Rattle.file_traits.specs.Lists.{NamedBytes}
+use Rattle.host_lines.specs.Traffic.{Peer}
+use Rattle.telnet_lines.specs.Line.{LineOf, unconnected}
 use Rattle.unit_trait.specs.declared.kind.UnitName.{UnitName}
 use Rattle.unit_trait.specs.Calls.{UnitState}
 use Rattle.event_queue.specs.EventList.{Event}
@@ -14,20 +12,16 @@ use Rattle.unit_files.specs.Buffer.{disk_unit, no_marks}
 use Rattle.nova_memory.specs.Memory.{MemoryState, IsMemory, IsSize}
 use Rattle.nova_processor.specs.declared.cpu.Cpu.{Cpu}
 use Rattle.nova_interrupts.specs.declared.interrupts.Ints.{Ints}
-use Rattle.expect_actions.specs.declared.breaks.Break.{Break}
-use Rattle.expect_actions.specs.declared.expects.Expect.{Expect}
-use Rattle.expect_actions.specs.Sends.{Send}
-use Rattle.expect_actions.specs.Watch.{WatchState, forgotten}
+use Rattle.expect_actions.specs.Watch.{forgotten}
 use Rattle.nova_machine.specs.Machine.{MachineState}
-use Rattle.nova_machine.specs.Seen.{Seen, erased, Beside, seen}
+use Rattle.nova_machine.specs.Seen.{Seen, erased}
 use Rattle.nova_machine.specs.Valid.{DiskIsItsFile}
-use Rattle.state_file.specs.declared.saved.SavedCpu.{SavedCpu}
-use Rattle.state_file.specs.declared.saved.SavedEvent.{SavedEvent}
-use Rattle.state_file.specs.declared.saved.SavedSend.{SavedSend}
-use Rattle.state_file.specs.Parts.{UnitPart, BreakPart, ExpectPart, MachinePart, WatchPart, State}
-use Rattle.state_file.specs.Ranges.{kind_at}
-use Rattle.state_file.specs.Restoring.{with_all, copy_of}
-use Rattle.state_file.specs.Session.{saved}
+use Rattle.state_text.specs.declared.saved.SavedCpu.{SavedCpu}
+use Rattle.state_text.specs.declared.saved.SavedEvent.{SavedEvent}
+use Rattle.state_text.specs.Parts.{UnitPart, MachinePart, State}
+use Rattle.state_text.specs.Ranges.{kind_at}
+use Rattle.state_text.specs.SavedWatch.{watch_from}
+use Rattle.saved_files.specs.Restoring.{with_all, copy_of}
 
 -- ---- the machine
 
@@ -86,25 +80,6 @@ abbrev pub lines_from : ℕ → List (LineOf Peer) → List (LineOf Peer)
 lines_from port [] = []
 lines_from port (line ∷ others) = unconnected (port_from port) ∷ others
 
--- ---- what a run watches
-
-abbrev pub break_from : BreakPart → Break
-break_from b = record { address = b.address; count = b.count; actions = b.actions }
-
-abbrev pub expect_from : ExpectPart → Expect
-expect_from e = record { count = e.count; text = e.text; actions = e.actions }
-
-abbrev pub send_from : SavedSend → Send
-send_from s = (s.time, s.byte)
-
--- the tables, with no actions of a stop
-unfoldable pub watch_from : WatchPart → WatchState
-watch_from w = record {
-  breaks = record { list = map break_from w.breaks; actions = [] };
-  expects = record { list = map expect_from w.expects; tail = w.tail; actions = [] };
-  sends = map send_from w.sends;
-}
-
 -- ---- all of it
 
 -- What a session works on once a saved one was put back: the keys, the bytes of files and what is still to come on
@@ -138,16 +113,3 @@ pub record CanBeSaved (s : Seen) : Type 0 where
   pub watch : s.watch ≡ forgotten s.watch
   pub line : length s.lines ≡ 1
   pub idle : AllByRecursion IsIdleLine s.lines
-
--- What was saved is put back.
-pub record SavingPutsBack : Type 0 where
-  -- into a session whose files have the same bytes and whose machine has as many lines: then all but the keys and what
-  -- is still to come on lines is as it was saved
-  pub back : (s present : Seen) → CanBeSaved s → present.files ≡ s.files → length present.lines ≡ length s.lines
-      → put_back (saved s) present ≡ record s { keys = present.keys; ahead = present.ahead }
-  -- of the premises of that: every machine is seen without numbers of files and without its lines
-  pub seen : (b : Beside) (whole : List Answer) (m : MachineState)
-      → erased (seen b whole m).machine ≡ (seen b whole m).machine
-  -- and a settled line to which nobody is connected is one that can be saved, where its port is not 0
-  pub idle : (s : LineState) (line : LineOf ℕ) → IsSettled line → line.connection ≡ None → line.port ≢ Some 0
-      → IsIdleLine (seen_line s line)

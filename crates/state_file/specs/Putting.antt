@@ -3,18 +3,18 @@ use Rattle.std.specs.Prelude.{◌≡◌, List, Option, map}
 use Rattle.host_lines.specs.Traffic.{Answer}
 use Rattle.host_lines.specs.Told.{ahead_of}
 use Rattle.nova_machine.specs.Seen.{Beside, seen}
-use Rattle.host_files.specs.Lists.{NamedBytes}
+use Rattle.file_traits.specs.Lists.{NamedBytes}
 use Rattle.unit_files.specs.Attachments.{Attachment, attachments_of, attachment_at}
 use Rattle.unit_files.specs.Buffer.{disk_unit}
 use Rattle.nova_machine.specs.Machine.{MachineState}
 use Rattle.nova_machine.specs.Registers.{with_cpu}
 use Rattle.nova_machine.specs.Seen.{erased}
 use Rattle.nova_machine.specs.Turn.{with_memory}
-use Rattle.state_file.specs.declared.saved.SavedCpu.{SavedCpu}
+use Rattle.state_text.specs.declared.saved.SavedCpu.{SavedCpu}
 use Rattle.state_file.specs.Listening.{AreClosed}
-use Rattle.state_file.specs.Parts.{MachinePart, State}
+use Rattle.state_text.specs.Parts.{MachinePart, State}
 use Rattle.state_file.specs.PutBack.{is_set, cpu_from, interrupts_from, memory_from, unit_from, event_from, machine_from, put_back}
-use Rattle.state_file.specs.Restoring.{copy_of}
+use Rattle.saved_files.specs.Restoring.{copy_of}
 
 -- the registers that instructions change
 abbrev pub with_registers_of : MachineState → SavedCpu → MachineState

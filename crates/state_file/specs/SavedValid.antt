@@ -1,8 +1,8 @@
 -- Which sessions leave a valid state where they are saved.
-use Rattle.std.specs.Prelude.{◌≡◌, ℕ, ◌≤◌, ◌^◌, ◌<◌, true, false, IsTrue, List, length, take, Option, IfSome, IfOk, Ok}
+use Rattle.std.specs.Prelude.{◌≡◌, ℕ, ◌≤◌, ◌^◌, ◌<◌, true, false, IsTrue, List, length, take, Option, IfSome}
 use Rattle.std.specs.List.{AllByRecursion}
 use Rattle.std.specs.Str.{is_utf8}
-use Rattle.host_files.specs.Lists.{NamedBytes, bytes_of}
+use Rattle.file_traits.specs.Lists.{NamedBytes, bytes_of}
 use Rattle.host_lines.specs.Traffic.{Peer}
 use Rattle.telnet_lines.specs.Line.{LineOf}
 use Rattle.unit_trait.specs.declared.kind.UnitName.{UnitName}
@@ -16,14 +16,10 @@ use Rattle.expect_actions.specs.Watch.{WatchState}
 use Rattle.nova_machine.specs.Run.{last_time}
 use Rattle.nova_machine.specs.Seen.{Seen, attached_in}
 use Rattle.nova_machine.specs.Valid.{Valid as ValidSeen}
-use Rattle.state_file.specs.Ranges.{standard_kinds, is_text_length}
-use Rattle.state_file.specs.Text.{text}
-use Rattle.state_file.specs.Valid.{AreBytes, AreActions, Valid, Fits}
-use Rattle.state_file.specs.Reading.{reading}
-use Rattle.state_file.specs.declared.saving.UnitPlace.{UnitPlace}
-use Rattle.state_file.specs.Saving.{unit_at, file_places}
-use Rattle.state_file.specs.Session.{saved}
-use Rattle.state_file.specs.PutBack.{put_back, CanBeSaved}
+use Rattle.state_text.specs.Ranges.{standard_kinds, is_text_length}
+use Rattle.state_text.specs.Valid.{AreBytes, AreActions}
+use Rattle.saved_files.specs.declared.saving.UnitPlace.{UnitPlace}
+use Rattle.saved_files.specs.Saving.{unit_at, file_places}
 
 -- the units are those of a standard machine, in bus order
 abbrev pub AreStandard : List UnitState → Type 0
@@ -72,14 +68,3 @@ pub record IsStandard (s : Seen) : Type 0 where
   pub files : AreTaken s.files (attached_in s.machine) file_places
   pub watch : AreGiven s.watch
   pub ports : AllByRecursion HasPort16 s.lines
-
--- What is saved of such a session is valid. So it has a text, which is read as that and nothing else, and what is read
--- of it puts the session back.
-pub record SavedIsValid : Type 0 where
-  pub valid : (s : Seen) → IsStandard s → Valid (saved s)
-  pub fits : (s : Seen) → IsStandard s → Fits (saved s)
-  pub read : (s : Seen) → IsStandard s → reading (text (saved s)) ≡ Ok (saved s)
-  pub restored : (s present : Seen) → IsStandard s → CanBeSaved s → present.files ≡ s.files
-      → length present.lines ≡ length s.lines
-      → IfOk (reading (text (saved s)))
-      (λ v. put_back v present ≡ record s { keys = present.keys; ahead = present.ahead })

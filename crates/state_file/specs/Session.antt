@@ -5,18 +5,14 @@ use Rattle.host_lines.specs.Traffic.{Peer}
 use Rattle.telnet_lines.specs.Line.{LineOf}
 use Rattle.unit_trait.specs.Calls.{UnitState}
 use Rattle.event_queue.specs.EventList.{Event}
-use Rattle.expect_actions.specs.declared.breaks.Break.{Break}
-use Rattle.expect_actions.specs.declared.expects.Expect.{Expect}
-use Rattle.expect_actions.specs.Sends.{Send}
-use Rattle.expect_actions.specs.Watch.{WatchState}
-use Rattle.nova_machine.specs.BusOrder.{place_of}
+use Rattle.unit_list.specs.BusOrder.{place_of}
 use Rattle.nova_machine.specs.Machine.{MachineState}
 use Rattle.nova_machine.specs.Seen.{Seen, attached_in}
-use Rattle.state_file.specs.declared.saved.SavedCpu.{SavedCpu}
-use Rattle.state_file.specs.declared.saved.SavedEvent.{SavedEvent}
-use Rattle.state_file.specs.declared.saved.SavedSend.{SavedSend}
-use Rattle.state_file.specs.Parts.{UnitPart, BreakPart, ExpectPart, MachinePart, WatchPart, State}
-use Rattle.state_file.specs.Saving.{flag_of, file_places, saved_files}
+use Rattle.state_text.specs.declared.saved.SavedCpu.{SavedCpu}
+use Rattle.state_text.specs.declared.saved.SavedEvent.{SavedEvent}
+use Rattle.state_text.specs.Parts.{UnitPart, MachinePart, State}
+use Rattle.state_text.specs.SavedWatch.{saved_watch}
+use Rattle.saved_files.specs.Saving.{flag_of, file_places, saved_files}
 
 -- ---- the machine
 
@@ -62,26 +58,6 @@ port_of (Some line) = port_number line.port
 
 unfoldable pub saved_port : List (LineOf Peer) → ℕ
 saved_port lines = port_of (slice_get lines 0)
-
--- ---- what a run watches
-
-abbrev pub saved_break : Break → BreakPart
-saved_break b = record { address = b.address; count = b.count; actions = b.actions }
-
-abbrev pub saved_expect : Expect → ExpectPart
-saved_expect e = record { count = e.count; text = e.text; actions = e.actions }
-
-abbrev pub saved_send : Send → SavedSend
-saved_send send = record { time = send.0; byte = send.1 }
-
--- the actions of the stop that came last are not saved
-unfoldable pub saved_watch : WatchState → WatchPart
-saved_watch w = record {
-  breaks = map saved_break w.breaks.list;
-  expects = map saved_expect w.expects.list;
-  tail = w.expects.tail;
-  sends = map saved_send w.sends;
-}
 
 -- ---- all of it
 

@@ -10,18 +10,17 @@ ghost use Rattle.event_queue.specs.EventList.{activated};
 ghost use Rattle.nova_memory.specs.Memory.{IsSize};
 ghost use Rattle.nova_machine.specs.Registers.{with_register};
 ghost use Rattle.nova_machine.specs.Turn.{with_memory};
-ghost use Rattle.state_file.specs.Parts.{unit_in, state_in};
+ghost use Rattle.state_text.specs.Parts.{unit_in, state_in};
 ghost use Rattle.state_file.specs.PutBack.{memory_from, unit_from, unit_named, event_from};
 ghost use Rattle.state_file.specs.Putting.{with_registers_of, with_interrupts_of, with_switches_of, with_cpu_of, with_machine_of, IsSeenAs};
-ghost use Rattle.state_file.specs.Ranges.{kind_at, standard_kinds};
-ghost use Rattle.state_file.specs.Reading.{next_number, with_event};
+ghost use Rattle.state_text.specs.Ranges.{kind_at, standard_kinds};
+ghost use Rattle.state_text.specs.Reading.{next_number, with_event};
 ghost use Rattle.state_file.specs.SavedValid.{AreStandard};
-ghost use Rattle.state_file.specs.Valid.{Follow, IsCpu, IsUnit, IsEvent, IsMachine};
+ghost use Rattle.state_text.specs.Valid.{Follow, IsCpu, IsUnit, IsEvent, IsMachine};
 
-use crate::kinds::kind_at;
-use crate::saved::{Saved, SavedCpu, SavedEvent, SavedUnit};
 use nova_machine::Machine;
 use nova_word::Word;
+use state_text::{Saved, SavedCpu, SavedEvent, SavedUnit, kind_at};
 use unit_trait::{CpuReg, Unit, UnitName};
 
 // These numbers as words.

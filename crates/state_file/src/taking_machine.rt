@@ -5,20 +5,20 @@ ghost use Rattle.telnet_lines.specs.Joined.{seen_line};
 ghost use Rattle.unit_trait.specs.Calls.{UnitState};
 ghost use Rattle.unit_trait.specs.Kinds.{code_of};
 ghost use Rattle.unit_list.specs.Bus.{unit_at};
-ghost use Rattle.state_file.specs.Fields.{machine_in};
-ghost use Rattle.state_file.specs.Parts.{unit_in};
-ghost use Rattle.state_file.specs.Ranges.{kind_at, standard_kinds};
+ghost use Rattle.state_text.specs.Fields.{machine_in};
+ghost use Rattle.state_text.specs.Parts.{unit_in};
+ghost use Rattle.state_text.specs.Ranges.{kind_at, standard_kinds};
 ghost use Rattle.state_file.specs.SavedValid.{AreStandard};
-ghost use Rattle.state_file.specs.Valid.{MachineFits};
+ghost use Rattle.state_text.specs.Valid.{MachineFits};
 ghost use Rattle.state_file.specs.Session.{saved_cpu, saved_unit, saved_event, saved_machine, saved_port};
 
-use crate::kinds::{kind_at, position_of, register_count};
-use crate::machine_fields::MachineFields;
-use crate::saved::{SavedCpu, SavedEvent, SavedUnit};
 use event_queue::Events;
 use nova_machine::Machine;
 use nova_memory::Memory;
 use nova_word::{Addr, Word};
+use state_text::{
+    MachineFields, SavedCpu, SavedEvent, SavedUnit, kind_at, position_of, register_count,
+};
 use std::alloc::{AllocError, Global};
 use unit_trait::{CpuReg, Kind, Unit};
 

@@ -1,7 +1,7 @@
 -- What is open and what is attached, once a file was attached or detached.
 use Rattle.std.proofs.Common.{inl, inr, ◌⊎◌, ◌≡◌, ◌≢◌, ℕ, zero, suc, ◌<◌, List, [], ◌∷◌, Option, Some, None, length}
 use Rattle.std.proofs.Common.{IfSome, get_or, set, map, replicate, refl, ap, sym, ◌∙◌, subst, arith}
-use Rattle.host_files.specs.State.{FileState, Opened, opened_at, without}
+use Rattle.file_traits.specs.State.{FileState, Opened, opened_at, without}
 use Rattle.unit_trait.specs.declared.kind.UnitName.{UnitName}
 use Rattle.unit_files.specs.Attachments.{Held, file_place, held_at, with_held, IsFileName, HaveFileNames}
 use Rattle.unit_files.specs.Causes.{IsNewId, OnlyKept, AreFrom}
@@ -9,7 +9,7 @@ use Rattle.unit_files.specs.Open.{is_reading, AllOpen, HaveOwnNumbers, IsFree, I
 use Rattle.unit_files.specs.View.{slot_of, held_of}
 use Rattle.unit_files.specs.declared.slots.UnitFile.{UnitFile}
 use Rattle.unit_files.proofs.Entries.{other-kept, closed-both}
-use Rattle.host_files.proofs.Tables.{front-found, front-out, front-passed, front-kept}
+use Rattle.file_traits.proofs.Fronts.{front-found, front-out, front-passed, front-kept}
 
 -- what stands at a place once one was written
 found-after : (slots : List (Option Held)) (p q : ℕ) (x : Option Held) (g : Held) → get_or (set slots p x) q None

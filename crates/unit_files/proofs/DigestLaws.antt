@@ -1,6 +1,6 @@
 -- The digest of a unit's file, where no call fails.
 use Rattle.std.proofs.Common.{◌≡◌, ◌&&◌, Bool, true, false, List, length, Option, Some, None, IsSome, nat_lt, refl, ap, sym, ◌∙◌, if◌then◌else◌}
-use Rattle.host_files.specs.Lists.{NamedBytes, find_file, bytes_of}
+use Rattle.file_traits.specs.Lists.{NamedBytes, find_file, bytes_of}
 use Rattle.unit_trait.specs.declared.kind.UnitName.{UnitName}
 use Rattle.unit_files.specs.Attachments.{Attachment, is_disk}
 use Rattle.unit_files.specs.Buffer.{Buffer, no_marks}

@@ -5,9 +5,9 @@ use Rattle.std.specs.Prelude.{IfSome}
 use Rattle.std.proofs.Math.Seq.{take-append-add}
 use Rattle.std.proofs.lemmas.List.{take-append-drop, take-append-le, length-take-le}
 use Rattle.fault_counts.specs.Faults.{raised}
-use Rattle.host_files.specs.declared.files.FileCall.TheVariants.{Write}
-use Rattle.host_files.specs.Lists.{NamedBytes, bytes_of, changed}
-use Rattle.host_files.specs.State.{FileState, content, name_at}
+use Rattle.file_traits.specs.declared.files.FileCall.TheVariants.{Write}
+use Rattle.file_traits.specs.Lists.{NamedBytes, bytes_of, changed}
+use Rattle.file_traits.specs.State.{FileState, content, name_at}
 use Rattle.unit_trait.specs.declared.kind.UnitName.{UnitName}
 use Rattle.unit_files.specs.declared.digest.FileDigest.{FileDigest}
 use Rattle.unit_files.specs.declared.faults.UnitFault.{UnitFault}

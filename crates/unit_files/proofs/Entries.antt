@@ -2,8 +2,8 @@
 use Rattle.std.proofs.Common.{inl, inr, ◌≡◌, ◌≢◌, ℕ, ◌==◌, List, [], ◌∷◌, Some, Option, refl, ap}
 use Rattle.std.proofs.Common.{sym, ◌∙◌, if◌then◌else◌}
 use Rattle.std.proofs.lemmas.Bool.{cases_eq}
-use Rattle.host_files.specs.State.{Opened, opened_at, without}
-use Rattle.host_files.proofs.Tables.{front-out, front-passed, front-kept}
+use Rattle.file_traits.specs.State.{Opened, opened_at, without}
+use Rattle.file_traits.proofs.Fronts.{front-out, front-passed, front-kept}
 
 -- closing one leaves every other as it was
 pub other-kept : (opened : List Opened) (file other : ℕ) → other ≢ file → opened_at (without opened file) other

@@ -4,8 +4,8 @@ use Rattle.std.proofs.lemmas.Bool.{cond_both, cases_Bool, cases_lt}
 use Rattle.std.proofs.lemmas.List.{ext_get_or}
 use Rattle.std.proofs.lemmas.Option.{slice_get-get_or, slice_get_within, unwrap_or-slice_get}
 use Rattle.std.proofs.Common.{unwrap_or}
-use Rattle.host_files.specs.Lists.{NamedBytes, find_file, bytes_of, changed}
-use Rattle.host_files.proofs.Changes.{changed_bytes, changed_elsewhere}
+use Rattle.file_traits.specs.Lists.{NamedBytes, find_file, bytes_of, changed}
+use Rattle.file_traits.proofs.Changes.{changed_bytes, changed_elsewhere}
 use Rattle.unit_trait.specs.declared.kind.UnitName.{UnitName}
 use Rattle.unit_files.specs.Attachments.{Attachment}
 use Rattle.unit_files.specs.Buffer.{Buffer, page_bytes, page_of}

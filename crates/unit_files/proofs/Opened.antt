@@ -2,12 +2,12 @@
 use Rattle.std.proofs.Common.{◌≡◌, ◌≢◌, ℕ, ◌<◌, Bool, true, false, List, [], Option, Some, IsSome, option_map}
 use Rattle.std.proofs.Common.{unwrap_or, nat_lt, refl, ap, sym, ◌∙◌, subst, arith, if◌then◌else◌}
 use Rattle.std.proofs.lemmas.Bool.Decides.{nat_tests}
-use Rattle.host_files.specs.declared.files.OpenMode.{OpenMode}
-use Rattle.host_files.specs.declared.files.OpenMode.TheVariants.{Read}
-use Rattle.host_files.specs.declared.files.FileCall.TheVariants as call
-use Rattle.host_files.specs.declared.files.FileId.{FileId}
-use Rattle.host_files.specs.Lists.{NamedBytes, bytes_of, changed}
-use Rattle.host_files.specs.State.{Opened, opened_at, name_at, mode_at}
+use Rattle.file_traits.specs.declared.files.OpenMode.{OpenMode}
+use Rattle.file_traits.specs.declared.files.OpenMode.TheVariants.{Read}
+use Rattle.file_traits.specs.declared.files.FileCall.TheVariants as call
+use Rattle.file_traits.specs.declared.files.FileId.{FileId}
+use Rattle.file_traits.specs.Lists.{NamedBytes, bytes_of, changed}
+use Rattle.file_traits.specs.State.{Opened, opened_at, name_at, mode_at}
 use Rattle.unit_trait.specs.declared.kind.UnitName.{UnitName}
 use Rattle.unit_files.specs.Attachments.{Attachment, Held, file_place, read_only_of, read_only_at}
 use Rattle.unit_files.specs.Acts.{Failure, failure_at, read_act, read_said, write_files, byte_written, most_bytes}

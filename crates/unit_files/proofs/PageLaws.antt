@@ -2,7 +2,7 @@
 use Rattle.std.proofs.Common.{◌≡◌, ◌≢◌, ◌<◌, ◌≤◌, ◌+◌, ◌-◌, ◌*◌, ◌%◌, ℕ, Bool, true, false, List, length, min, get_or, None, Some, inl, inr, ap, sym, ◌∙◌, arith}
 use Rattle.std.proofs.lemmas.Bool.{cond_both, cases_Bool, cases_lt}
 use Rattle.std.proofs.lemmas.List.{ext_get_or}
-use Rattle.host_files.specs.Lists.{overwritten}
+use Rattle.file_traits.specs.Lists.{overwritten}
 use Rattle.unit_files.specs.Attachments.{Attachment}
 use Rattle.unit_files.specs.Buffer.{Buffer, page_bytes, disk_pages, page_of, sector_bytes, disk_sectors, with_sector, with_marks, sector_written}
 use Rattle.unit_files.specs.Acts.{written_pages, written_back}

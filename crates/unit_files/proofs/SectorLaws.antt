@@ -4,7 +4,7 @@ use Rattle.std.proofs.lemmas.Bool.{cases_lt}
 use Rattle.std.proofs.lemmas.List.{get_or-drop, get_or-take, length-append, length-replicate, length-take-le, ext_get_or}
 use Rattle.std.proofs.lemmas.Nat.{mul-add-lt}
 use Rattle.std.proofs.Math.Nat.{mul_comm}
-use Rattle.host_files.specs.Lists.{overwritten}
+use Rattle.file_traits.specs.Lists.{overwritten}
 use Rattle.unit_files.specs.Buffer.{sector_bytes, sector_of, with_sector}
 use Rattle.unit_files.specs.Laws.{SectorsReadBack}
 use Rattle.unit_files.proofs.Overwriting.{at, zeros-behind, over-before, over-within, over-behind}

@@ -2,33 +2,14 @@
 -- says so; the numbers of open files are no part of this.
 use Rattle.std.specs.Prelude.{ℕ, ◌+◌, ◌&&◌, Bool, true, false, nat_lt, List, [], ◌∷◌, length, take, drop, get_or, Option, Some}
 use Rattle.std.specs.Prelude.{None, is_some, if◌then◌else◌}
-use Rattle.host_files.specs.declared.files.FileCall.{FileCall}
-use Rattle.host_files.specs.declared.files.FileCall.TheVariants.{Opening, Length, Read, Write, SetLength, Closing}
-use Rattle.host_files.specs.Lists.{NamedBytes, find_file, bytes_of, with_file, changed, overwritten}
+use Rattle.file_traits.specs.declared.files.FileCall.TheVariants.{Opening, Length, Read, Write, Closing}
+pub use Rattle.file_traits.specs.Failures.{Failure, same_call, failure_at}
+use Rattle.file_traits.specs.Lists.{NamedBytes, find_file, bytes_of, with_file, changed, overwritten}
 use Rattle.unit_trait.specs.declared.kind.UnitName.{UnitName}
 use Rattle.unit_files.specs.declared.modes.AttachMode.{AttachMode}
 use Rattle.unit_files.specs.declared.modes.AttachMode.TheVariants.{Any, MustExist, New, ReadOnly}
 use Rattle.unit_files.specs.Attachments.{Attachment, attachment_at, with_attachment, longest_file, is_disk, only_writes}
 use Rattle.unit_files.specs.Buffer.{Buffer, page_bytes, no_marks, no_buffer}
-
--- the call that fails, and how many bytes it wrote
-pub record Failure : Type 0 where
-  pub call : FileCall
-  pub done : ℕ
-
-abbrev pub same_call : FileCall → FileCall → Bool
-same_call Opening Opening = true
-same_call Length Length = true
-same_call Read Read = true
-same_call Write Write = true
-same_call SetLength SetLength = true
-same_call Closing Closing = true
-same_call a b = false
-
--- the failure, where it is one of this call
-abbrev pub failure_at : FileCall → Option Failure → Option Failure
-failure_at call None = None
-failure_at call (Some f) = if same_call f.call call then Some f else None
 
 -- ---- a file is attached
 

@@ -2,7 +2,7 @@
 -- since. They are written back where the disk is detached.
 use Rattle.std.specs.Prelude.{ℕ, ◌+◌, ◌-◌, ◌*◌, ◌/◌, ◌^◌, Bool, true, false, List, [], ◌++◌, length, take, drop, min, replicate}
 use Rattle.std.specs.Prelude.{Option, Some, None, if◌then◌else◌}
-use Rattle.host_files.specs.Lists.{overwritten}
+use Rattle.file_traits.specs.Lists.{overwritten}
 use Rattle.unit_trait.specs.declared.kind.Kind.TheVariants.{Dsk}
 use Rattle.unit_trait.specs.declared.kind.UnitName.{UnitName}
 use Rattle.unit_files.specs.declared.faults.SectorAnswer.{SectorAnswer}

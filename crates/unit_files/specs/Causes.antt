@@ -1,9 +1,9 @@
 -- Each failing call that is answered has raised a count in this very call: that of its file, or of openings.
 use Rattle.std.specs.Prelude.{◌≡◌, ◌≢◌, ◌⊎◌, ℕ, ◌<◌, ◌≤◌, Bool, IsTrue, List, Option, Some, None, Result, Ok, Err}
 use Rattle.fault_counts.specs.Faults.{raised, Rose}
-use Rattle.host_files.specs.declared.files.FileId.{FileId}
-use Rattle.host_files.specs.declared.files.FileCall.TheVariants.{Opening, Length, Read, Write, Closing}
-use Rattle.host_files.specs.State.{FileState}
+use Rattle.file_traits.specs.declared.files.FileId.{FileId}
+use Rattle.file_traits.specs.declared.files.FileCall.TheVariants.{Opening, Length, Read, Write, Closing}
+use Rattle.file_traits.specs.State.{FileState}
 use Rattle.whole_files.specs.Claims.{raised_by}
 use Rattle.unit_trait.specs.declared.kind.UnitName.{UnitName}
 use Rattle.unit_files.specs.declared.faults.UnitFault.{UnitFault}

@@ -3,10 +3,10 @@
 use Rattle.std.specs.Prelude.{◌≡◌, ◌⊎◌, ℕ, ◌≤◌, nat_lt, true, IsTrue, List, length, Option, Some, None, Result, Ok, Err}
 use Rattle.std.specs.Prelude.{if◌then◌else◌}
 use Rattle.sha2.specs.Sha256.{sha256}
-use Rattle.host_files.specs.declared.files.FileId.{FileId}
-use Rattle.host_files.specs.declared.files.FileCall.TheVariants.{Length, Read, Write}
-use Rattle.host_files.specs.Lists.{NamedBytes, bytes_of}
-use Rattle.host_files.specs.State.{FileState}
+use Rattle.file_traits.specs.declared.files.FileId.{FileId}
+use Rattle.file_traits.specs.declared.files.FileCall.TheVariants.{Length, Read, Write}
+use Rattle.file_traits.specs.Lists.{NamedBytes, bytes_of}
+use Rattle.file_traits.specs.State.{FileState}
 use Rattle.unit_trait.specs.declared.kind.UnitName.{UnitName}
 use Rattle.unit_files.specs.declared.digest.FileDigest.{FileDigest}
 use Rattle.unit_files.specs.declared.faults.UnitFault.{UnitFault}

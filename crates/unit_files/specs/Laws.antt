@@ -2,8 +2,8 @@
 use Rattle.std.specs.Prelude.{◌≡◌, ◌≢◌, ◌<◌, ◌≤◌, ℕ, ◌+◌, ◌*◌, Bool, true, false, List, length, max, get_or, slice_get}
 use Rattle.std.specs.Prelude.{Option, Some, None, IsSome}
 use Rattle.sha2.specs.Sha256.{sha256}
-use Rattle.host_files.specs.declared.files.FileCall.TheVariants.{Write}
-use Rattle.host_files.specs.Lists.{NamedBytes, find_file, bytes_of}
+use Rattle.file_traits.specs.declared.files.FileCall.TheVariants.{Write}
+use Rattle.file_traits.specs.Lists.{NamedBytes, find_file, bytes_of}
 use Rattle.unit_trait.specs.declared.kind.UnitName.{UnitName}
 use Rattle.unit_files.specs.Attachments.{Attachment}
 use Rattle.unit_files.specs.Buffer.{Buffer, page_bytes, disk_pages, sector_bytes, disk_sectors, sector_of, with_sector}

@@ -1,8 +1,8 @@
 -- The files of units are open, and each has a number of its own.
 use Rattle.std.specs.Prelude.{◌≡◌, ◌≢◌, ℕ, Bool, true, false, List, [], ◌∷◌, Option, Some, None, get_or}
-use Rattle.host_files.specs.declared.files.OpenMode.{OpenMode}
-use Rattle.host_files.specs.declared.files.OpenMode.TheVariants.{Read}
-use Rattle.host_files.specs.State.{Opened, opened_at, without}
+use Rattle.file_traits.specs.declared.files.OpenMode.{OpenMode}
+use Rattle.file_traits.specs.declared.files.OpenMode.TheVariants.{Read}
+use Rattle.file_traits.specs.State.{Opened, opened_at, without}
 use Rattle.unit_files.specs.Attachments.{Held}
 
 abbrev pub is_reading : OpenMode → Bool

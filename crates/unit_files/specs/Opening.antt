@@ -1,13 +1,13 @@
 -- A file is opened for a unit, its length is asked for, and the disk reads it whole.
 use Rattle.std.specs.Prelude.{◌≡◌, ◌≢◌, ◌⊎◌, ℕ, ◌+◌, ◌<◌, ◌≤◌, Bool, IsTrue, List, ◌∷◌, Some, None, Result, Ok, Err}
 use Rattle.fault_counts.specs.Faults.{raised, Rose}
-use Rattle.host_files.specs.declared.files.FileId.{FileId}
-use Rattle.host_files.specs.declared.files.FileCall.{FileCall}
-use Rattle.host_files.specs.declared.files.FileCall.TheVariants as call
-use Rattle.host_files.specs.declared.files.OpenMode.{OpenMode}
-use Rattle.host_files.specs.declared.files.OpenFault.{OpenFault}
-use Rattle.host_files.specs.declared.files.OpenFault.TheVariants as opening
-use Rattle.host_files.specs.State.{FileState, opened_at}
+use Rattle.file_traits.specs.declared.files.FileId.{FileId}
+use Rattle.file_traits.specs.declared.files.FileCall.{FileCall}
+use Rattle.file_traits.specs.declared.files.FileCall.TheVariants as call
+use Rattle.file_traits.specs.declared.files.OpenMode.{OpenMode}
+use Rattle.file_traits.specs.declared.files.OpenFault.{OpenFault}
+use Rattle.file_traits.specs.declared.files.OpenFault.TheVariants as opening
+use Rattle.file_traits.specs.State.{FileState, opened_at}
 use Rattle.unit_trait.specs.declared.kind.UnitName.{UnitName}
 use Rattle.unit_files.specs.declared.modes.AttachMode.{AttachMode}
 use Rattle.unit_files.specs.declared.faults.UnitFault.{UnitFault}

@@ -2,10 +2,10 @@
 use Rattle.std.specs.Prelude.{◌≡◌, ◌≢◌, ℕ, ◌+◌, ◌-◌, ◌<◌, ◌≤◌, ◌^◌, Bool, true, List, length, take, Option, Some, None}
 use Rattle.std.specs.Prelude.{IfSome, Result, Ok, Err, if◌then◌else◌}
 use Rattle.fault_counts.specs.Faults.{raised}
-use Rattle.host_files.specs.declared.files.FileId.{FileId}
-use Rattle.host_files.specs.declared.files.FileCall.TheVariants as call
-use Rattle.host_files.specs.Lists.{overwritten}
-use Rattle.host_files.specs.State.{FileState}
+use Rattle.file_traits.specs.declared.files.FileId.{FileId}
+use Rattle.file_traits.specs.declared.files.FileCall.TheVariants as call
+use Rattle.file_traits.specs.Lists.{overwritten}
+use Rattle.file_traits.specs.State.{FileState}
 use Rattle.unit_trait.specs.declared.kind.UnitName.{UnitName}
 use Rattle.unit_files.specs.declared.faults.UnitFault.{UnitFault}
 use Rattle.unit_files.specs.declared.faults.ByteAnswer.{ByteAnswer}

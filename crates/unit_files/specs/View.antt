@@ -1,7 +1,7 @@
 -- What contracts see of the files of units.
 use Rattle.std.specs.Prelude.{◌≡◌, ◌≤◌, ◌-◌, ◌++◌, Bool, true, false, List, [], Option, Some, None, get_or, length, replicate, option_map, string_bytes}
 use Rattle.std.specs.Prelude.{vec_capacity}
-use Rattle.host_files.specs.declared.files.FileId.{FileId}
+use Rattle.file_traits.specs.declared.files.FileId.{FileId}
 use Rattle.unit_trait.specs.declared.kind.UnitName.{UnitName}
 use Rattle.unit_files.specs.declared.slots.UnitFile.{UnitFile}
 use Rattle.unit_files.specs.declared.disk_copy.DiskCopy.{DiskCopy}

@@ -1,7 +1,7 @@
 ghost use Rattle.std.specs.Prelude.{◌≡◌, ◌≤◌, ◌<◌, List, IsTrue, IfOk, IfSome, OnErr, Ok, length, option_map, is_some, Some, None};
 ghost use Rattle.std.specs.Prelude.{true, false, not, map, if◌then◌else◌, vec_capacity};
-ghost use Rattle.host_files.specs.Lists.{bytes_of};
-ghost use Rattle.host_files.specs.State.{Opened, IsOpen, without};
+ghost use Rattle.file_traits.specs.Lists.{bytes_of};
+ghost use Rattle.file_traits.specs.State.{Opened, IsOpen, without};
 ghost use Rattle.unit_files.specs.Attachments.{held_at, with_held, attachments_of, with_attachment, is_disk};
 ghost use Rattle.unit_files.specs.Buffer.{nothing_attached, no_buffer, no_marks};
 ghost use Rattle.unit_files.specs.Attachments.{attachment_at, takes_attachment, may_write, read_only_at, only_writes};
@@ -15,8 +15,8 @@ ghost use Rattle.unit_files.specs.Causes.{OnlyNewCounts, AttachCause, DetachCaus
 ghost use Rattle.unit_files.specs.Shapes.{CloseCause, WriteCause, IsPart};
 ghost use Rattle.unit_files.specs.Acts.{detached, is_due_back, written_back};
 ghost use Rattle.unit_files.specs.Answers.{failure_in};
-ghost use Rattle.host_files.specs.Lists.{changed};
-ghost use Rattle.host_files.specs.State.{IsWritable, name_at};
+ghost use Rattle.file_traits.specs.Lists.{changed};
+ghost use Rattle.file_traits.specs.State.{IsWritable, name_at};
 ghost use Rattle.unit_files.specs.View.{held_of, slot_of, Holds, IsNewCopy};
 
 use crate::disk_copy::DiskCopy;
@@ -25,7 +25,7 @@ use crate::flushing::write_copy;
 use crate::modes::AttachMode;
 use crate::opening::{room_for, take_file};
 use crate::slots::{FILE_UNITS, UnitFile, is_disk, only_writes, place_of};
-use host_files::{Failed, FileCall, FileId, Files, OutOfMemory};
+use file_traits::{Failed, FileCall, FileId, Files, OutOfMemory};
 use std::alloc::{AllocError, Global};
 use std::marker::Model;
 use unit_trait::UnitName;

@@ -1,7 +1,7 @@
 ghost use Rattle.std.specs.Prelude.{◌≡◌, ◌≤◌, ◌<◌, ◌^◌, IsTrue, [], ◌∷◌};
-ghost use Rattle.host_files.specs.declared.files.FileCall.TheVariants.{Read, Write};
-ghost use Rattle.host_files.specs.Lists.{changed};
-ghost use Rattle.host_files.specs.State.{IsOpen, IsWritable, content, name_at};
+ghost use Rattle.file_traits.specs.declared.files.FileCall.TheVariants.{Read, Write};
+ghost use Rattle.file_traits.specs.Lists.{changed};
+ghost use Rattle.file_traits.specs.State.{IsOpen, IsWritable, content, name_at};
 ghost use Rattle.unit_files.specs.Attachments.{attachments_of, attachment_at, is_paper, may_write};
 ghost use Rattle.unit_files.specs.Acts.{failure_at, read_said, write_said, byte_written, read_act, write_act};
 ghost use Rattle.unit_files.specs.Acts.{write_files, most_bytes};
@@ -12,7 +12,7 @@ ghost use Rattle.unit_files.specs.Shapes.{MayRead, IsOfRead, WroteAtMostOne, Ope
 
 use crate::attached::Attached;
 use crate::faults::{ByteAnswer, UnitFault};
-use host_files::{Failed, FileCall, FileId, Files};
+use file_traits::{Failed, FileCall, FileId, Files};
 use unit_trait::UnitName;
 
 /// How many bytes of its file a unit sees: 8 octal digits of places.

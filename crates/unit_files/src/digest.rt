@@ -1,8 +1,8 @@
 ghost use Rattle.std.specs.Prelude.{◌≡◌, ◌⊎◌, ◌<◌, IsTrue, IfOk, IfErr, IfSome, OnErr, Err, None, length};
-ghost use Rattle.host_files.specs.declared.files.FileCall.{FileCall};
-ghost use Rattle.host_files.specs.declared.files.FileCall.TheVariants.{Length, Read, Write};
-ghost use Rattle.host_files.specs.FileCalls.{Counted};
-ghost use Rattle.host_files.specs.State.{IsOpen, content};
+ghost use Rattle.file_traits.specs.declared.files.FileCall.{FileCall};
+ghost use Rattle.file_traits.specs.declared.files.FileCall.TheVariants.{Length, Read, Write};
+ghost use Rattle.file_traits.specs.FileCalls.{Counted};
+ghost use Rattle.file_traits.specs.State.{IsOpen, content};
 ghost use Rattle.sha2.specs.Sha256.{sha256};
 ghost use Rattle.unit_files.specs.Attachments.{attachments_of, attachment_at, takes_attachment};
 ghost use Rattle.unit_files.specs.Buffer.{Buffer};
@@ -14,7 +14,7 @@ ghost use Rattle.unit_files.specs.Shapes.{IsPart};
 
 use crate::attached::Attached;
 use crate::faults::{DetachFault, UnitFault};
-use host_files::{Failed, FileCall, FileId, Files};
+use file_traits::{Failed, FileCall, FileId, Files};
 use sha2::{Digest, Sha256};
 use unit_trait::UnitName;
 

@@ -1,4 +1,4 @@
-use host_files::{FileCall, FileId};
+use file_traits::{FileCall, FileId};
 use unit_trait::UnitName;
 
 /// A call on the file of a unit that failed: none of its file where it was to be opened, and how many bytes a write had

@@ -1,7 +1,7 @@
 ghost use Rattle.std.specs.Prelude.{◌≡◌, ◌<◌, ◌≤◌, ◌+◌, ◌^◌, length, take, drop, IfErr};
-ghost use Rattle.host_files.specs.Lists.{changed};
-ghost use Rattle.host_files.specs.State.{IsOpen, IsWritable, name_at};
-ghost use Rattle.host_files.specs.declared.files.FileCall.TheVariants.{Write};
+ghost use Rattle.file_traits.specs.Lists.{changed};
+ghost use Rattle.file_traits.specs.State.{IsOpen, IsWritable, name_at};
+ghost use Rattle.file_traits.specs.declared.files.FileCall.TheVariants.{Write};
 ghost use Rattle.unit_files.specs.Acts.{failure_at, piece_of, written_pages};
 ghost use Rattle.unit_files.specs.Buffer.{disk_pages, page_bytes};
 ghost use Rattle.unit_files.specs.View.{IsCopy};
@@ -9,7 +9,7 @@ ghost use Rattle.unit_files.specs.Shapes.{EndsWithin, WriteCause, failure_of_wri
 
 use crate::disk_copy::{DiskCopy, PAGE_BYTES};
 use crate::faults::UnitFault;
-use host_files::{FileCall, FileId, Files};
+use file_traits::{FileCall, FileId, Files};
 use unit_trait::UnitName;
 
 /// Writes the marked pages of a copy over the open file of a unit, one behind another.

@@ -1,7 +1,7 @@
 ghost use Rattle.std.specs.Prelude.{◌≡◌, ◌≤◌, IsTrue, IfSome, IfOk, OnOk, OnErr, None, length};
-ghost use Rattle.host_files.specs.declared.files.FileCall.TheVariants.{Opening};
-ghost use Rattle.host_files.specs.Lists.{bytes_of};
-ghost use Rattle.host_files.specs.State.{IsOpen, content, without};
+ghost use Rattle.file_traits.specs.declared.files.FileCall.TheVariants.{Opening};
+ghost use Rattle.file_traits.specs.Lists.{bytes_of};
+ghost use Rattle.file_traits.specs.State.{IsOpen, content, without};
 ghost use Rattle.unit_files.specs.declared.modes.AttachMode.TheVariants.{Any};
 ghost use Rattle.unit_files.specs.Attachments.{longest_file, is_disk};
 ghost use Rattle.unit_files.specs.Acts.{failure_at, measured, opening_said};
@@ -19,7 +19,7 @@ use crate::faults::{AttachFault, UnitFault};
 use crate::modes::AttachMode;
 use crate::reading::read_copy;
 use crate::slots::{is_disk, longest_file};
-use host_files::{Failed, FileCall, FileId, Files, OpenFault, OpenMode};
+use file_traits::{Failed, FileCall, FileId, Files, OpenFault, OpenMode};
 use std::alloc::{AllocError, Global};
 use unit_trait::{Kind, UnitName};
 

@@ -1,11 +1,11 @@
 ghost use Rattle.std.specs.Prelude.{◌≡◌, ◌≤◌, ◌<◌, IsTrue, IfOk, OnOk, OnErr, length, vec_capacity};
-ghost use Rattle.host_files.specs.FileCalls.{Counted, Reads};
-ghost use Rattle.host_files.specs.State.{IsOpen, content};
+ghost use Rattle.file_traits.specs.FileCalls.{Counted, Reads};
+ghost use Rattle.file_traits.specs.State.{IsOpen, content};
 ghost use Rattle.unit_files.specs.Buffer.{disk_bytes};
 ghost use Rattle.unit_files.specs.View.{IsEmptyCopy, IsNewCopy};
 
 use crate::disk_copy::{DiskCopy, PAGE_BYTES};
-use host_files::{Failed, FileId, Files};
+use file_traits::{Failed, FileId, Files};
 
 /// Reads an open file, which has so many bytes, into a copy in which nothing is yet. It has fewer only where the file
 /// has become shorter.

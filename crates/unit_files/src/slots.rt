@@ -1,7 +1,7 @@
 ghost use Rattle.std.specs.Prelude.{◌≡◌, ◌≤◌};
 ghost use Rattle.unit_files.specs.Attachments.{file_place, is_disk, only_writes, longest_file};
 
-use host_files::FileId;
+use file_traits::FileId;
 use unit_trait::{Kind, UnitName, units_of};
 
 /// How many units can have a file.

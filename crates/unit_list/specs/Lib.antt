@@ -3,3 +3,4 @@ pub mod Places
 pub mod Reset
 pub mod Laws
 pub mod Whole
+pub mod BusOrder

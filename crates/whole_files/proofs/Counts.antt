@@ -5,7 +5,7 @@ use Rattle.std.proofs.lemmas.Bool.{eq-eqb, ne_eqb}
 use Rattle.std.proofs.lemmas.Bool.Decides.{eqb_tells}
 use Rattle.std.specs.Global.{Vec}
 use Rattle.fault_counts.specs.Faults.{raised}
-use Rattle.host_files.specs.declared.files.FileId.{FileId}
+use Rattle.file_traits.specs.declared.files.FileId.{FileId}
 use Rattle.whole_files.specs.declared.reading.Refusal.{Refusal}
 use Rattle.whole_files.specs.declared.reading.Refusal.TheVariants as refusal
 use Rattle.whole_files.specs.declared.whole.FailedCall.{FailedCall}

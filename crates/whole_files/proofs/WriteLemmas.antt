@@ -8,21 +8,21 @@ use Rattle.std.proofs.lemmas.Bool.{eq-eqb}
 use Rattle.std.proofs.lemmas.List.{drop_all}
 use Rattle.std.proofs.Math.Seq.{take-length}
 use Rattle.fault_counts.specs.Faults.{CountsFault}
-use Rattle.host_files.specs.declared.files.FileCall.TheVariants.{Write}
-use Rattle.host_files.specs.declared.files.FileId.{FileId}
-use Rattle.host_files.specs.declared.files.OpenFault.{OpenFault}
-use Rattle.host_files.specs.declared.files.OpenFault.TheVariants as opening
-use Rattle.host_files.specs.declared.files.WriteFault.{WriteFault}
-use Rattle.host_files.specs.Lists.{NamedBytes, with_file, changed, overwritten}
-use Rattle.host_files.specs.FileCalls.{written_count}
-use Rattle.host_files.specs.State.{Opened, opened_at, name_at}
+use Rattle.file_traits.specs.declared.files.FileCall.TheVariants.{Write}
+use Rattle.file_traits.specs.declared.files.FileId.{FileId}
+use Rattle.file_traits.specs.declared.files.OpenFault.{OpenFault}
+use Rattle.file_traits.specs.declared.files.OpenFault.TheVariants as opening
+use Rattle.file_traits.specs.declared.files.WriteFault.{WriteFault}
+use Rattle.file_traits.specs.Lists.{NamedBytes, with_file, changed, overwritten}
+use Rattle.file_traits.specs.FileCalls.{written_count}
+use Rattle.file_traits.specs.State.{Opened, opened_at, name_at}
 use Rattle.whole_files.specs.declared.whole.FailedCall.{FailedCall}
 use Rattle.whole_files.specs.Claims.{raised_by, claims_of}
 use Rattle.whole_files.specs.Reading.{IsClosing, failure_count}
 use Rattle.whole_files.specs.Writing.{WriteSaid, AllWritten, WriteFailed, write_act, said_of_writing, claimed_in_writing, HasWriteShape}
 use Rattle.whole_files.specs.Writing.{write_claims_on, written_of, unmade_of}
 use Rattle.whole_files.proofs.Counts.{one-here, none-elsewhere, calls-counted}
-use Rattle.host_files.proofs.Names.{test-same}
+use Rattle.file_traits.proofs.Changes.{test-same}
 
 -- ---- the file behind a write
 

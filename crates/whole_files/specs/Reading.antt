@@ -2,11 +2,11 @@
 use Rattle.std.specs.Prelude.{◌≡◌, ◌≢◌, ℕ, ◌<◌, ◌≤◌, List, length}
 use Rattle.std.specs.Prelude.{Option, Some, None, Result, Ok, Err}
 use Rattle.std.specs.Global.{Vec}
-use Rattle.host_files.specs.declared.files.FileCall.TheVariants.{Opening, Length, Read, Closing}
-use Rattle.host_files.specs.declared.files.FileId.{FileId}
-use Rattle.host_files.specs.declared.files.OpenFault.{OpenFault}
-use Rattle.host_files.specs.declared.files.OpenFault.TheVariants as opening
-use Rattle.host_files.specs.State.{FileState}
+use Rattle.file_traits.specs.declared.files.FileCall.TheVariants.{Opening, Length, Read, Closing}
+use Rattle.file_traits.specs.declared.files.FileId.{FileId}
+use Rattle.file_traits.specs.declared.files.OpenFault.{OpenFault}
+use Rattle.file_traits.specs.declared.files.OpenFault.TheVariants as opening
+use Rattle.file_traits.specs.State.{FileState}
 use Rattle.whole_files.specs.declared.reading.Refusal.{Refusal}
 use Rattle.whole_files.specs.declared.reading.Refusal.TheVariants as refusal
 use Rattle.whole_files.specs.declared.whole.FailedCall.{FailedCall}

@@ -1,9 +1,9 @@
 -- A file is read whole, by its name. A call on it fails exactly where the outside says so; the numbers of open files
 -- are no part of this.
 use Rattle.std.specs.Prelude.{ℕ, ◌+◌, List, ◌∷◌, length, nat_lt, Option, Some, None, if◌then◌else◌}
-use Rattle.host_files.specs.declared.files.FileCall.{FileCall}
-use Rattle.host_files.specs.declared.files.FileCall.TheVariants.{Opening, Length, Read, Closing}
-use Rattle.host_files.specs.Lists.{NamedBytes, find_file}
+use Rattle.file_traits.specs.declared.files.FileCall.{FileCall}
+use Rattle.file_traits.specs.declared.files.FileCall.TheVariants.{Opening, Length, Read, Closing}
+use Rattle.file_traits.specs.Lists.{NamedBytes, find_file}
 
 -- how many bytes a file that is read whole may have: 2 ^ 20
 unfoldable pub longest_file : ℕ

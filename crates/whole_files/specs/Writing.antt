@@ -2,12 +2,12 @@
 -- are no part of this.
 use Rattle.std.specs.Prelude.{◌≡◌, ◌≢◌, ℕ, ◌+◌, ◌≤◌, ◌&&◌, ◌||◌, Bool, true, false, not, List, [], ◌∷◌, ◌++◌, length, take}
 use Rattle.std.specs.Prelude.{Option, Some, None, IfSome, IsSome, is_some, Result, Ok, Err}
-use Rattle.host_files.specs.declared.files.FileCall.{FileCall}
-use Rattle.host_files.specs.declared.files.FileCall.TheVariants.{Opening, Write, Closing}
-use Rattle.host_files.specs.declared.files.FileId.{FileId}
-use Rattle.host_files.specs.declared.files.OpenFault.{OpenFault}
-use Rattle.host_files.specs.declared.files.WriteFault.{WriteFault}
-use Rattle.host_files.specs.Lists.{NamedBytes, with_file}
+use Rattle.file_traits.specs.declared.files.FileCall.{FileCall}
+use Rattle.file_traits.specs.declared.files.FileCall.TheVariants.{Opening, Write, Closing}
+use Rattle.file_traits.specs.declared.files.FileId.{FileId}
+use Rattle.file_traits.specs.declared.files.OpenFault.{OpenFault}
+use Rattle.file_traits.specs.declared.files.WriteFault.{WriteFault}
+use Rattle.file_traits.specs.Lists.{NamedBytes, with_file}
 use Rattle.whole_files.specs.declared.whole.FailedCall.{FailedCall}
 use Rattle.whole_files.specs.declared.whole.WholeFault.{WholeFault}
 use Rattle.whole_files.specs.declared.whole.WholeFault.TheVariants as fault

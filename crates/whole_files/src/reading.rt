@@ -1,11 +1,11 @@
 ghost use Rattle.std.specs.Prelude.{◌≡◌, ◌<◌, ◌≤◌, IsTrue, IfOk, OnErr, length};
-ghost use Rattle.host_files.specs.FileCalls.{Counted, Reads};
-ghost use Rattle.host_files.specs.State.{IsOpen, content};
+ghost use Rattle.file_traits.specs.FileCalls.{Counted, Reads};
+ghost use Rattle.file_traits.specs.State.{IsOpen, content};
 ghost use Rattle.whole_files.specs.Reading.{IsRead, Fails, failures};
 ghost use Rattle.whole_files.specs.Whole.{longest_file};
 
 use crate::whole::LONGEST_FILE;
-use host_files::{Failed, FileId, Files};
+use file_traits::{Failed, FileId, Files};
 use std::alloc::{AllocError, Global};
 
 /// Why an open file was not read.

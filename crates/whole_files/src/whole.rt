@@ -1,6 +1,6 @@
 ghost use Rattle.std.specs.Prelude.{◌≡◌, ◌<◌, ◌≤◌, ◌+◌, ℕ, IsTrue, IfOk, IfSome, None, Err, length, if◌then◌else◌};
 ghost use Rattle.fault_counts.specs.Faults.{raised};
-ghost use Rattle.host_files.specs.State.{IsOpen, without};
+ghost use Rattle.file_traits.specs.State.{IsOpen, without};
 ghost use Rattle.whole_files.specs.Reading.{Fails, IsClosing, failure_count, answer_of, failure_of};
 ghost use Rattle.whole_files.specs.Reading.{fault_of_opening, failed_opening};
 ghost use Rattle.whole_files.specs.Claims.{said_of, claimed, HasShape, raised_by, claims_on, IsNew, opening_counted};
@@ -8,7 +8,7 @@ ghost use Rattle.whole_files.specs.Claims.{WholeCause};
 ghost use Rattle.whole_files.specs.Whole.{longest_file, whole_act};
 
 use crate::reading::{Refusal, read_open};
-use host_files::{Failed, FileCall, FileId, Files, OpenFault, OpenMode};
+use file_traits::{Failed, FileCall, FileId, Files, OpenFault, OpenMode};
 use std::alloc::Global;
 
 /// How many bytes a file that is read whole may have.

@@ -7,7 +7,7 @@ ghost use Rattle.whole_files.specs.Writing.{written_of, unmade_of};
 ghost use Rattle.whole_files.specs.declared.whole.WholeFault.TheVariants as faults;
 
 use crate::whole::{FailedCall, WholeFault, close, failed_opening, fault_of_opening};
-use host_files::{FileCall, FileId, Files, OpenFault, OpenMode, WriteFault};
+use file_traits::{FileCall, FileId, Files, OpenFault, OpenMode, WriteFault};
 use std::alloc::Global;
 
 /// What came of writing a file.

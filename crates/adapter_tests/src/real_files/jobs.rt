@@ -1,6 +1,6 @@
 // What is done with a file of the system, and what each call should answer.
 ghost use Rattle.std.specs.Prelude.{◌≡◌};
-ghost use Rattle.host_files.specs.State.{IsOpen, IsWritable};
+ghost use Rattle.file_traits.specs.State.{IsOpen, IsWritable};
 
 use crate::calls::{gives, is_cut, is_long, takes};
 use host_files::{FileId, Files, OpenFault, OpenMode};

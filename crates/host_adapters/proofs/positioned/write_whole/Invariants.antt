@@ -1,6 +1,6 @@
 -- The first bytes of the piece were written, and each call writes some of the rest.
 use Rattle.std.proofs.Common.{length, ◌-◌, ◌≤◌, ◌≡◌, IsTrue, take}
-use Rattle.host_files.specs.Lists.{overwritten}
+use Rattle.file_traits.specs.Lists.{overwritten}
 use Rattle.host_adapters.proofs.positioned.write_whole.Given as goal
 
 abbrev pub invariant-pieces : goal.invariant-pieces

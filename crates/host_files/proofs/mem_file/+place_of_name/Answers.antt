@@ -1,6 +1,6 @@
 use Rattle.std.proofs.Common.{◌≡◌, ◌∷◌, true, map, string_bytes, subst, List, rules}
 use Rattle.std.specs.Prelude.{bytes_eq}
-use Rattle.host_files.specs.Lists.{NamedBytes}
+use Rattle.file_traits.specs.Lists.{NamedBytes}
 use Rattle.host_files.specs.MemFiles.{named_of, HasPlace}
 use Rattle.host_files.proofs.Names.{place-first}
 use Rattle.host_files.proofs.mem_file.+place_of_name.Goals as goal

@@ -1,5 +1,5 @@
 use Rattle.std.proofs.Common.{◌≡◌, None, map, get_or, refl, sym, rules}
-use Rattle.host_files.specs.Lists.{find_file, resized}
+use Rattle.file_traits.specs.Lists.{find_file, resized}
 use Rattle.host_files.specs.MemFiles.{named_of, HasPlace}
 use Rattle.host_files.proofs.Names.{changed-none, set-changed}
 use Rattle.host_files.proofs.mem_file.resize_file.Goals as goal

@@ -1,5 +1,5 @@
 use Rattle.std.proofs.Common.{◌<◌, length, rules}
-use Rattle.host_files.proofs.Writes.{written}
+use Rattle.file_traits.proofs.Writes.{written}
 use Rattle.host_files.proofs.mem_file.write_into.Goals as goal
 
 pub returns-then-not-is_empty-clause-bytes : goal.returns-then-not-is_empty-clause-bytes

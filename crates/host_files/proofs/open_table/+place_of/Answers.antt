@@ -1,5 +1,5 @@
 use Rattle.std.proofs.Common.{◌≡◌, ◌≢◌, ◌+◌, ◌∷◌, map, subst, List, rules}
-use Rattle.host_files.specs.State.{Opened}
+use Rattle.file_traits.specs.State.{Opened}
 use Rattle.host_files.specs.OpenTable.{opened_of, StandsAt}
 use Rattle.host_files.proofs.Tables.{stands-further}
 use Rattle.host_files.proofs.open_table.+place_of.Goals as goal

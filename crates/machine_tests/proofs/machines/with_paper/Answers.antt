@@ -1,8 +1,8 @@
 use Rattle.std.proofs.Common.{[], ◌∷◌, sym, subst, arith}
 use Rattle.unit_trait.specs.declared.kind.Kind.TheVariants.{Lpt, Ptr, Ptp}
 use Rattle.unit_trait.specs.Row.{initial_unit}
-use Rattle.nova_machine.specs.BusOrder.{IsBusOrder}
-use Rattle.nova_machine.proofs.BusOrders.{in-order}
+use Rattle.unit_list.specs.BusOrder.{IsBusOrder}
+use Rattle.machine_laws.proofs.BusOrders.{in-order}
 use Rattle.machine_tests.proofs.machines.with_paper.Goals as goal
 
 pub new-requires : goal.new-requires

@@ -1,7 +1,7 @@
 use Rattle.std.proofs.Common.{◌≢◌, ℕ, Option, sym, ◌∙◌, subst}
 use Rattle.file_commands.specs.Notes.{notes_said}
-use Rattle.scp_commands.specs.Live.{beyond}
-use Rattle.nova_top.specs.Words.{texts_of}
+use Rattle.command_session.specs.Live.{beyond}
+use Rattle.command_words.specs.Words.{texts_of}
 use Rattle.nova_machine.specs.Machine.{MachineState}
 use Rattle.nova_top.specs.Ends.{IsOutcome, IsComplete, LinesAtEnd}
 use Rattle.nova.proofs.session.session.Goals as goal

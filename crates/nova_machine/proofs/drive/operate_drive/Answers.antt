@@ -2,8 +2,8 @@ use Rattle.std.proofs.Common.{◌≡◌, Result, Ok, Err, refl, ap, sym, ◌∙�
 use Rattle.unit_files.specs.Attachments.{attachments_of, attachment_at}
 use Rattle.unit_files.proofs.Opened.{file-of}
 use Rattle.unit_trait.specs.declared.calls.Got.{Got}
-use Rattle.nova_machine.specs.declared.tape.TapeStop.{TapeStop}
-use Rattle.nova_machine.specs.declared.tape.TapeStop.TheVariants.{Image, Call}
+use Rattle.memory_transfer.specs.declared.tape.TapeStop.{TapeStop}
+use Rattle.memory_transfer.specs.declared.tape.TapeStop.TheVariants.{Image, Call}
 use Rattle.nova_machine.proofs.Operating.{Done, may-write, on-file}
 use Rattle.nova_machine.proofs.ServiceCauses.{tape-made}
 use Rattle.nova_machine.proofs.Steps.{done-tape, stopped-tape}

@@ -1,9 +1,10 @@
 use Rattle.std.proofs.Common.{rules, ◌≡◌, ℕ, subst}
-use Rattle.host_files.specs.Lists.{changed}
-use Rattle.host_files.specs.State.{name_at}
-use Rattle.host_files.proofs.ThroughOne.{through_changed, through_one, through_file}
-use Rattle.nova_machine.specs.Tapes.{image_operated}
-use Rattle.nova_machine.specs.Operated.{failure_of, CountsStop, StopCause}
+use Rattle.file_traits.specs.Lists.{changed}
+use Rattle.file_traits.specs.State.{name_at}
+use Rattle.file_traits.proofs.ThroughOne.{through_changed, through_one, through_file}
+use Rattle.memory_transfer.specs.Tapes.{image_operated}
+use Rattle.memory_transfer.specs.Operated.{failure_of, CountsStop}
+use Rattle.nova_machine.specs.DriveCauses.{StopCause}
 use Rattle.nova_machine.proofs.Operating.{stop-cause}
 use Rattle.nova_machine.proofs.drive.operate_file.Goals as goal
 

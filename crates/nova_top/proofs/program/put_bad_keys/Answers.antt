@@ -1,5 +1,5 @@
 use Rattle.std.proofs.Common.{List, ℕ, ◌∷◌, [], ◌++◌, codes, subst, ◌∙◌}
-use Rattle.host_files.specs.Streams.{Puts}
+use Rattle.file_traits.specs.Streams.{Puts}
 use Rattle.nova_top.proofs.program.put_bad_keys.Goals as goal
 
 pub returns-clause-told : goal.returns-clause-told

@@ -5,8 +5,8 @@ use Rattle.scp_script.specs.Loop.{KeptCause}
 use Rattle.unit_files.specs.Open.{AllOpen, Around}
 use Rattle.unit_files.specs.Attachments.{Held}
 use Rattle.nova_machine.specs.Comes.{output}
-use Rattle.scp_commands.specs.Live.{CommandState, beyond}
-use Rattle.scp_commands.specs.LinesLeft.{LinesLeft}
+use Rattle.command_session.specs.Live.{CommandState, beyond}
+use Rattle.command_session.specs.LinesLeft.{LinesLeft}
 use Rattle.nova_top.proofs.PortLemmas.{apart-at-first, lines-at-end}
 use Rattle.nova_top.proofs.ProgramLemmas.{lines-told, unwritten-finish}
 use Rattle.nova_top.proofs.program.run_session.Goals as goal

@@ -9,13 +9,13 @@ use Rattle.file_commands.specs.OwnFiles.{IsOwnNote, AreOwn}
 use Rattle.file_commands.proofs.OwnFiles.{own-both, all-own}
 use Rattle.nova_machine.specs.Machine.{MachineState}
 use Rattle.file_commands.proofs.Adding.{counted-none}
-use Rattle.host_files.specs.Lists.{NamedBytes}
+use Rattle.file_traits.specs.Lists.{NamedBytes}
 use Rattle.state_file.specs.SavedValid.{AreStandard}
-use Rattle.scp_commands.specs.Live.{CommandState, beyond}
+use Rattle.command_session.specs.Live.{CommandState, beyond}
 use Rattle.scp_script.specs.Loop.{AreKept}
 use Rattle.nova_top.specs.declared.word_files.Refusal.{Refusal}
 use Rattle.nova_top.specs.Ends.{AreWordClosings, InputTells}
-use Rattle.nova_top.specs.Words.{texts_of}
+use Rattle.command_words.specs.Words.{texts_of}
 use Rattle.nova_top.specs.Workload.{with_workload}
 use Rattle.nova_top.proofs.ProgramLemmas.{Begun, Made, begun-files, begun-line, new-slots, new-standard, workload-given}
 use Rattle.nova_top.proofs.ProgramLemmas.{usage-answer, files-answer, files-memory, files-status, files-cause, session-answer, memory-answer, session-cause, session-status, refused-status, kept-counted, refused-counted, complete-answer, never-unwritten, denied-unwritten, unwritten-whole}

@@ -1,8 +1,8 @@
 use Rattle.std.proofs.Common.{Result, List, ◌≡◌, ◌∙◌, sym, subst, Ok, Err, rules}
-use Rattle.host_files.specs.Lists.{NamedBytes}
+use Rattle.file_traits.specs.Lists.{NamedBytes}
 use Rattle.file_commands.specs.Notes.{notes_said}
 use Rattle.file_commands.specs.declared.note.Subject.TheVariants as subject
-use Rattle.nova_top.specs.Words.{texts_of, script_name}
+use Rattle.command_words.specs.Words.{texts_of, script_name}
 use Rattle.nova_top.specs.Outside.{taken_script}
 use Rattle.nova_top.specs.Workload.{first_text}
 use Rattle.nova_top.specs.declared.word_files.Refusal.TheVariants.{OutOfMemory}

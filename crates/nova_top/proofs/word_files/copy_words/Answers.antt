@@ -1,5 +1,5 @@
 use Rattle.std.proofs.Common.{ap, ◌∙◌}
-use Rattle.nova_top.specs.Words.{texts_of}
+use Rattle.command_words.specs.Words.{texts_of}
 use Rattle.nova_top.proofs.ReadingLemmas.{copied-more}
 use Rattle.nova_top.proofs.word_files.copy_words.Goals as goal
 

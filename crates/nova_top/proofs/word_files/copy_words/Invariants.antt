@@ -1,5 +1,5 @@
 use Rattle.std.proofs.Common.{◌≡◌, take}
-use Rattle.nova_top.specs.Words.{texts_of}
+use Rattle.command_words.specs.Words.{texts_of}
 use Rattle.nova_top.proofs.word_files.copy_words.Given as goal
 
 -- the words so far are copied

@@ -1,6 +1,6 @@
 use Rattle.std.proofs.Common.{ℕ, ◌+◌, ◌≤◌, length, Option, sym, subst}
 use Rattle.file_commands.specs.declared.note.Subject.TheVariants as subject
-use Rattle.nova_top.specs.Words.{texts_of, keys_name}
+use Rattle.command_words.specs.Words.{texts_of, keys_name}
 use Rattle.nova_top.specs.Unread.{keys_ids}
 use Rattle.nova_top.proofs.UnreadLemmas.{keys-cause, keys-given, none-given, none-taken}
 use Rattle.nova_top.proofs.ReadingLemmas.{named-at, keys-take}

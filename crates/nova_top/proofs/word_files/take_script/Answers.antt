@@ -1,6 +1,6 @@
 use Rattle.std.proofs.Common.{length}
 use Rattle.file_commands.specs.declared.note.Subject.TheVariants as subject
-use Rattle.nova_top.specs.Words.{texts_of, script_name}
+use Rattle.command_words.specs.Words.{texts_of, script_name}
 use Rattle.nova_top.proofs.UnreadLemmas.{script-cause, none-taken}
 use Rattle.nova_top.proofs.ReadingLemmas.{named-at, script-take}
 use Rattle.nova_top.proofs.word_files.take_script.Goals as goal

@@ -1,14 +1,16 @@
 use Rattle.std.proofs.Common.{ap, Err}
 use Rattle.file_commands.specs.Notes.{notes_said}
-use Rattle.scp_commands.specs.Live.{CommandState, live_in, beyond}
+use Rattle.command_session.specs.Live.{CommandState, live_in, beyond}
 use Rattle.nova_machine.specs.Comes.{output}
-use Rattle.scp_commands.specs.declared.fault.CommandFault.TheVariants.{OutOfMemory}
+use Rattle.command_session.specs.declared.fault.CommandFault.TheVariants.{OutOfMemory}
 use Rattle.scp_commands.specs.Effect.{effect}
-use Rattle.scp_commands.specs.Doing.{is_restore}
-use Rattle.scp_commands.proofs.DidLemmas.{did-want}
-use Rattle.scp_commands.proofs.ObeyLemmas.{lines-kept, unlistened, may-want, none-measured, want-kept}
+use Rattle.command_session.specs.Doing.{is_restore}
+use Rattle.command_session.proofs.DidLemmas.{did-want}
+use Rattle.command_session.proofs.KeptLemmas.{lines-kept}
+use Rattle.command_session.proofs.ListenLemmas.{unlistened}
+use Rattle.scp_commands.proofs.ObeyLemmas.{may-want, none-measured, want-kept}
 use Rattle.scp_commands.proofs.BackLemmas.{back-in-room}
-use Rattle.scp_commands.proofs.WorkLemmas.{none-works}
+use Rattle.scp_commands.proofs.WorkLemmas.{none-works, works-in-room}
 use Rattle.scp_commands.proofs.execute_command.execute.Goals as goal
 
 pub returns-in-Err-clause-told : goal.returns-in-Err-clause-told
@@ -50,3 +52,8 @@ pub returns-in-Ok-clause-back : goal.returns-in-Ok-clause-back
 returns-in-Ok-clause-back g c =
     back-in-room g.F.Files.tells (g.F.Files.state c.args.files.now).files c.args.command.now c.obey.result c.args.session.now c.take_room.new.self c.obey.new.session
     (ap (λ (x : CommandState). x.machine) c.take_room.ensures.rest) c.obey.ensures.back
+
+pub returns-in-Ok-clause-works : goal.returns-in-Ok-clause-works
+returns-in-Ok-clause-works g c =
+    works-in-room c.args.command.now c.obey.result c.args.session.now c.take_room.new.self c.obey.new.session (g.F.Files.state c.args.files.now) (g.F.Files.state c.obey.new.files)
+    (ap (λ (x : CommandState). x.machine) c.take_room.ensures.rest) (ap (λ (x : CommandState). x.watch) c.take_room.ensures.rest) c.obey.ensures.works

@@ -1,11 +1,11 @@
 use Rattle.std.proofs.Common.{Ok, Err, refl, ap, sym, ◌∙◌, subst}
 use Rattle.file_commands.specs.Notes.{notes_said}
-use Rattle.scp_commands.specs.declared.fault.CommandFault.{CommandFault}
+use Rattle.command_session.specs.declared.fault.CommandFault.{CommandFault}
 use Rattle.nova_machine.specs.Comes.{output}
-use Rattle.scp_commands.specs.Live.{live_in, beyond}
-use Rattle.scp_commands.specs.Effect.{Asked, asked}
-use Rattle.scp_commands.proofs.AskedLemmas.{asked-as}
-use Rattle.scp_commands.proofs.PortLemmas.{left-same}
+use Rattle.command_session.specs.Live.{live_in, beyond}
+use Rattle.command_session.specs.Asked.{Asked, asked}
+use Rattle.command_session.proofs.AskedLemmas.{asked-as}
+use Rattle.command_session.proofs.PortLemmas.{left-same}
 use Rattle.scp_script.specs.Scripts.{checked}
 use Rattle.scp_script.specs.Loop.{Answers, IsShort, coming}
 use Rattle.scp_script.proofs.TextLemmas.{answers-none}

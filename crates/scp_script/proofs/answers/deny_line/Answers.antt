@@ -3,7 +3,7 @@ use Rattle.scp_script.specs.Scripts.{behind_failure}
 use Rattle.scp_script.specs.Actions.{texts_of, behind_refusal}
 use Rattle.scp_script.specs.Loop.{coming}
 use Rattle.nova_machine.specs.Comes.{output}
-use Rattle.scp_commands.specs.Live.{live_in}
+use Rattle.command_session.specs.Live.{live_in}
 use Rattle.scp_script.proofs.TextLemmas.{line-denied}
 use Rattle.scp_script.proofs.answers.deny_line.Goals as goal
 

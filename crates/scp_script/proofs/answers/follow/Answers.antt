@@ -1,6 +1,6 @@
 use Rattle.std.proofs.Common.{List, Ok, refl, subst, ap, sym, ◌∙◌}
-use Rattle.scp_commands.specs.declared.next.Next.{Next}
-use Rattle.scp_commands.specs.Doing.{Does}
+use Rattle.command_session.specs.declared.next.Next.{Next}
+use Rattle.command_session.specs.Doing.{Does}
 use Rattle.nova_machine.specs.Comes.{output}
 use Rattle.scp_script.specs.Scripts.{Script, label_in, jumped_to}
 use Rattle.scp_script.specs.Actions.{texts_of}

@@ -1,15 +1,15 @@
 use Rattle.std.proofs.Common.{◌≡◌, Ok, Err, refl, ap, sym, subst}
 use Rattle.file_commands.specs.Notes.{notes_said}
 use Rattle.nova_machine.specs.Comes.{output}
-use Rattle.scp_commands.specs.Live.{Live, CommandState, live_in, beyond, standing}
+use Rattle.command_session.specs.Live.{Live, CommandState, live_in, beyond, standing}
 use Rattle.scp_commands.specs.Effect.{effect}
-use Rattle.scp_commands.specs.Nature.{nature}
-use Rattle.scp_commands.specs.declared.fault.CommandFault.{CommandFault}
-use Rattle.scp_commands.specs.declared.fault.CommandFault.TheVariants as fault
-use Rattle.scp_commands.specs.Remains.{Remains}
-use Rattle.scp_commands.specs.LinesLeft.{ListenCause}
-use Rattle.scp_commands.proofs.RemainLemmas.{remains, notes-remain}
-use Rattle.scp_commands.proofs.PortLemmas.{left-same}
+use Rattle.command_session.specs.Nature.{nature}
+use Rattle.command_session.specs.declared.fault.CommandFault.{CommandFault}
+use Rattle.command_session.specs.declared.fault.CommandFault.TheVariants as fault
+use Rattle.command_session.specs.Remains.{Remains}
+use Rattle.command_session.specs.LinesLeft.{ListenCause}
+use Rattle.command_session.proofs.RemainLemmas.{remains, notes-remain}
+use Rattle.command_session.proofs.PortLemmas.{left-same}
 use Rattle.scp_script.specs.declared.progress.Progress.TheVariants.{IsOver}
 use Rattle.scp_script.specs.declared.progress.Finish.TheVariants.{OutOfMemory}
 use Rattle.scp_script.specs.Loop.{coming}

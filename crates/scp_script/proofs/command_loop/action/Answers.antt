@@ -2,9 +2,9 @@ use Rattle.std.proofs.Common.{◌≡◌, ◌<◌, ◌-◌, ℕ, List, [], ◌∷
 use Rattle.file_commands.specs.Notes.{Note, notes_said}
 use Rattle.nova_machine.specs.Comes.{output}
 use Rattle.telnet_lines.specs.Many.{AreApart}
-use Rattle.scp_commands.specs.Live.{CommandState, live_in, beyond}
-use Rattle.scp_commands.specs.LinesLeft.{LinesLeft}
-use Rattle.scp_commands.specs.Effect.{asked}
+use Rattle.command_session.specs.Live.{CommandState, live_in, beyond}
+use Rattle.command_session.specs.LinesLeft.{LinesLeft}
+use Rattle.command_session.specs.Asked.{asked}
 use Rattle.scp_script.specs.declared.progress.CommandLoop.{CommandLoop}
 use Rattle.scp_script.specs.declared.progress.Progress.TheVariants.{IsOver}
 use Rattle.scp_script.specs.declared.progress.Finish.TheVariants.{Commands}

@@ -2,15 +2,15 @@ use Rattle.std.proofs.Common.{Some, None, inl, ◌≡◌, ◌<◌, [], Err, refl
 use Rattle.unit_files.specs.Open.{Around}
 use Rattle.file_commands.specs.Notes.{Note, notes_said}
 use Rattle.scp_parser.specs.declared.fault.ParseFault.TheVariants.{TooLong}
-use Rattle.scp_commands.specs.declared.fault.CommandFault.TheVariants.{Parse}
+use Rattle.command_session.specs.declared.fault.CommandFault.TheVariants.{Parse}
 use Rattle.nova_machine.specs.Comes.{output}
 use Rattle.telnet_lines.specs.Many.{AreApart}
-use Rattle.scp_commands.specs.Live.{CommandState, live_in, beyond}
-use Rattle.scp_commands.specs.LinesLeft.{LinesLeft}
-use Rattle.scp_commands.proofs.PortLemmas.{left-same}
-use Rattle.scp_commands.specs.Doing.{Closes}
-use Rattle.scp_commands.specs.Effect.{asked}
-use Rattle.scp_commands.proofs.AskedLemmas.{long-asked}
+use Rattle.command_session.specs.Live.{CommandState, live_in, beyond}
+use Rattle.command_session.specs.LinesLeft.{LinesLeft}
+use Rattle.command_session.proofs.PortLemmas.{left-same}
+use Rattle.command_session.specs.Doing.{Closes}
+use Rattle.command_session.specs.Asked.{asked}
+use Rattle.command_session.proofs.AskedLemmas.{long-asked}
 use Rattle.scp_script.specs.declared.progress.Progress.TheVariants.{IsOver}
 use Rattle.scp_script.specs.declared.progress.Finish.TheVariants.{Commands, Console, Input}
 use Rattle.scp_script.specs.Scripts.{checked}

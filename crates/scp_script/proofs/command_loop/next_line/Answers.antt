@@ -2,8 +2,8 @@ use Rattle.std.proofs.Common.{[], ◌∷◌, ap, sym, ◌∙◌, refl, subst, ar
 use Rattle.file_commands.specs.Notes.{notes_said}
 use Rattle.nova_machine.specs.Comes.{output}
 use Rattle.telnet_lines.specs.Many.{AreApart}
-use Rattle.scp_commands.specs.Live.{CommandState, beyond}
-use Rattle.scp_commands.specs.LinesLeft.{LinesLeft}
+use Rattle.command_session.specs.Live.{CommandState, beyond}
+use Rattle.command_session.specs.LinesLeft.{LinesLeft}
 use Rattle.scp_script.specs.declared.progress.Progress.TheVariants.{IsOver}
 use Rattle.scp_script.specs.declared.progress.Finish.TheVariants.{Exit, OutOfMemory}
 use Rattle.scp_script.specs.Actions.{texts_of}

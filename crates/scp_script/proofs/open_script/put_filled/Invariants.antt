@@ -1,6 +1,6 @@
 use Rattle.std.proofs.Common.{◌≡◌, ◌≤◌, ◌-◌, ℕ, List, IsTrue, length, drop, Result}
-use Rattle.host_files.specs.declared.streams.Failed.{Failed}
-use Rattle.host_files.specs.Streams.{Puts}
+use Rattle.file_traits.specs.declared.streams.Failed.{Failed}
+use Rattle.file_traits.specs.Streams.{Puts}
 use Rattle.script_text.specs.Filling.{filled}
 use Rattle.scp_script.proofs.open_script.put_filled.Given as goal
 

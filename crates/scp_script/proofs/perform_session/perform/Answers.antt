@@ -12,10 +12,10 @@ use Rattle.scp_script.specs.Scripts.{first_script}
 use Rattle.scp_script.specs.Perform.{beginning, beginning_with}
 use Rattle.host_lines.specs.Told.{record_in}
 use Rattle.nova_machine.specs.Comes.{output}
-use Rattle.scp_commands.specs.LinesLeft.{LinesLeft}
+use Rattle.command_session.specs.LinesLeft.{LinesLeft}
 use Rattle.nova_machine.proofs.LineSteps.{first-through}
-use Rattle.scp_commands.proofs.PortLemmas.{left-same, left-then}
-use Rattle.scp_commands.specs.Live.{CommandState, beyond}
+use Rattle.command_session.proofs.PortLemmas.{left-same, left-then}
+use Rattle.command_session.specs.Live.{CommandState, beyond}
 use Rattle.scp_script.specs.Loop.{AreKept, session_of}
 use Rattle.scp_script.proofs.WholeLemmas.{ComesSoFar, begun, never-begun, further, over, kept-none, kept-both, causes-behind, kept-since}
 use Rattle.scp_script.proofs.perform_session.perform.Goals as goal

@@ -1,5 +1,5 @@
 use Rattle.std.proofs.Common.{◌≡◌, ◌≤◌, ◌-◌, List, IsTrue, true, false}
-use Rattle.host_files.specs.State.{Opened}
+use Rattle.file_traits.specs.State.{Opened}
 use Rattle.unit_files.specs.Open.{AllOpen, Around}
 use Rattle.file_commands.specs.OwnFiles.{AreOwn}
 use Rattle.file_commands.specs.Notes.{notes_said}
@@ -8,8 +8,8 @@ use Rattle.host_lines.specs.Told.{IsFirst, record_in}
 use Rattle.telnet_lines.specs.Many.{AreApart}
 use Rattle.nova_machine.specs.Comes.{output}
 use Rattle.state_file.specs.SavedValid.{AreStandard}
-use Rattle.scp_commands.specs.Live.{beyond}
-use Rattle.scp_commands.specs.LinesLeft.{LinesLeft}
+use Rattle.command_session.specs.Live.{beyond}
+use Rattle.command_session.specs.LinesLeft.{LinesLeft}
 use Rattle.scp_script.specs.Session.{spent_more}
 use Rattle.scp_script.specs.Perform.{beginning}
 use Rattle.scp_script.specs.Loop.{AreKept, NumbersSuffice, session_of}

@@ -6,7 +6,7 @@ use Rattle.unit_list.specs.Bus.{kinds_of}
 use Rattle.unit_list.proofs.Resets.{reset-kinds}
 use Rattle.nova_machine.specs.Machine.{MachineState, new_machine, reset_machine, reset_devices}
 use Rattle.state_file.specs.SavedValid.{AreStandard}
-use Rattle.scp_commands.specs.Live.{CommandState}
+use Rattle.command_session.specs.Live.{CommandState}
 use Rattle.script_tests.proofs.play.opened.Goals as goal
 
 new-kinds : (units : List UnitState) → kinds_of (new_machine units).units ≡ kinds_of units

@@ -1,5 +1,5 @@
 use Rattle.std.proofs.Common.{◌-◌, ◌≡◌, ◌≤◌, IsTrue}
-use Rattle.host_files.specs.OneList.{longest_list, shown}
+use Rattle.file_traits.specs.OneList.{longest_list, shown}
 use Rattle.simh_tape.specs.Spacing.{space_from}
 use Rattle.simh_tape.proofs.SpaceLemmas.{MadeAtFirst}
 use Rattle.simh_tape.proofs.spacing.space.Given as goal

@@ -1,5 +1,5 @@
 use Rattle.std.proofs.Common.{length, ◌-◌, ◌≡◌, ◌≤◌, IsTrue, take, drop}
-use Rattle.host_files.specs.OneList.{longest_list, shown}
+use Rattle.file_traits.specs.OneList.{longest_list, shown}
 use Rattle.simh_tape.proofs.words.read_all.Given as goal
 
 abbrev pub invariant-loop-have : goal.invariant-loop-have

@@ -1,6 +1,6 @@
 use Rattle.std.specs.Borrow.{Bor}
 use Rattle.std.proofs.Common.{◌+◌, ◌≤◌, ◌∙◌, List, [], ℕ, length, drop, get_or, ap, arith}
-use Rattle.host_files.specs.Streams.{joined}
+use Rattle.file_traits.specs.Streams.{joined}
 use Rattle.simh_tape.proofs.WriteLemmas.{next_piece, piece_fits, part_more, left_more, all_done, whole}
 use Rattle.simh_tape.proofs.writing.write_pieces.Goals as goal
 

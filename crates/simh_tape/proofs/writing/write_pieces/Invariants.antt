@@ -1,5 +1,5 @@
 use Rattle.std.proofs.Common.{◌≡◌, ◌≤◌, ◌++◌, IsTrue, length, take, drop}
-use Rattle.host_files.specs.Streams.{joined}
+use Rattle.file_traits.specs.Streams.{joined}
 use Rattle.simh_tape.proofs.writing.write_pieces.Given as goal
 
 abbrev pub invariant-loop-piece : goal.invariant-loop-piece

@@ -7,8 +7,8 @@ use Rattle.unit_list.specs.Bus.{unit_at}
 use Rattle.event_queue.specs.EventList.{Event}
 use Rattle.event_queue.specs.Agenda.{asked_in_order}
 use Rattle.nova_machine.specs.Machine.{MachineState}
-use Rattle.state_file.specs.declared.saved.SavedEvent.{SavedEvent}
-use Rattle.state_file.specs.Ranges.{kind_at}
+use Rattle.state_text.specs.declared.saved.SavedEvent.{SavedEvent}
+use Rattle.state_text.specs.Ranges.{kind_at}
 use Rattle.state_file.proofs.PuttingLemmas.{CanWait, events_said, each-waits, events-stand, event-more, events-end, events-alone, unit-there}
 use Rattle.state_file.proofs.putting.put_agenda.Goals as goal
 

@@ -1,7 +1,7 @@
 use Rattle.std.proofs.Common.{◌≡◌, List, length, map, ap, sym, subst, ◌∙◌, rules}
 use Rattle.nova_machine.specs.Machine.{MachineState}
-use Rattle.state_file.specs.declared.saved.SavedUnit.{SavedUnit}
-use Rattle.state_file.specs.Parts.{state_in, unit_in}
+use Rattle.state_text.specs.declared.saved.SavedUnit.{SavedUnit}
+use Rattle.state_text.specs.Parts.{state_in, unit_in}
 use Rattle.state_file.specs.PutBack.{unit_from}
 use Rattle.state_file.specs.Putting.{with_machine_of}
 use Rattle.state_file.specs.SavedValid.{AreStandard}

@@ -5,10 +5,10 @@ use Rattle.unit_trait.specs.Calls.{UnitState}
 use Rattle.unit_trait.specs.Row.{InRange}
 use Rattle.nova_machine.specs.Machine.{MachineState}
 use Rattle.std.specs.Prelude.{List, map}
-use Rattle.state_file.specs.Parts.{unit_in}
+use Rattle.state_text.specs.Parts.{unit_in}
 use Rattle.state_file.proofs.PutBackMachineLemmas.{units-fit}
-use Rattle.state_file.specs.declared.saved.SavedUnit.{SavedUnit}
-use Rattle.state_file.specs.Ranges.{kind_at}
+use Rattle.state_text.specs.declared.saved.SavedUnit.{SavedUnit}
+use Rattle.state_text.specs.Ranges.{kind_at}
 use Rattle.state_file.proofs.PuttingLemmas.{units_said, each-fits, units-stand, unit-more, units-end, units-alone}
 use Rattle.state_file.proofs.putting.put_units.Goals as goal
 

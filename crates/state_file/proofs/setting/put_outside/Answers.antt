@@ -5,17 +5,17 @@ use Rattle.unit_files.specs.Attachments.{held_at}
 use Rattle.unit_files.specs.Buffer.{AttachedFiles, nothing_attached}
 use Rattle.unit_files.specs.Open.{Around}
 use Rattle.nova_machine.specs.Machine.{MachineState, attached_files, with_attached_files}
-use Rattle.state_file.specs.declared.saved.SavedFile.{SavedFile}
-use Rattle.state_file.specs.GivingBack.{OnlyTheirCounts}
-use Rattle.state_file.specs.Parts.{state_in}
-use Rattle.state_file.specs.Reading.{place_of}
-use Rattle.state_file.specs.Restoring.{files_in, IsOfThese}
-use Rattle.state_file.specs.RestoringOne.{CanAttach, AreApart}
-use Rattle.state_file.proofs.GivingBackLemmas.{given-back}
-use Rattle.state_file.proofs.PortLemmas.{these-of-session, no-listening, port-of-session, no-port}
-use Rattle.state_file.proofs.RestoreCounts.{new-counts-behind-all, session-cause, port-cause, port-compared}
-use Rattle.state_file.proofs.Together.{all-free, only-base}
-use Rattle.state_file.proofs.ValidFiles.{each-can, all-apart}
+use Rattle.state_text.specs.declared.saved.SavedFile.{SavedFile}
+use Rattle.saved_files.specs.GivingBack.{OnlyTheirCounts}
+use Rattle.state_text.specs.Parts.{state_in}
+use Rattle.state_text.specs.Reading.{place_of}
+use Rattle.saved_files.specs.Restoring.{files_in, IsOfThese}
+use Rattle.saved_files.specs.RestoringOne.{CanAttach, AreApart}
+use Rattle.saved_files.proofs.GivingBackLemmas.{given-back}
+use Rattle.state_file.proofs.PortLemmas.{these-of-session, no-listening, port-of-session, no-port, port-compared, port-cause}
+use Rattle.saved_files.proofs.RestoreCounts.{new-counts-behind-all, session-cause}
+use Rattle.saved_files.proofs.Together.{all-free, only-base}
+use Rattle.saved_files.proofs.ValidFiles.{each-can, all-apart}
 use Rattle.state_file.proofs.setting.put_outside.Goals as goal
 
 pub give_back_all-requires-clause-can : goal.give_back_all-requires-clause-can

@@ -3,9 +3,9 @@ use Rattle.unit_files.specs.Attachments.{held_at, no_attachments}
 use Rattle.nova_machine.specs.Machine.{MachineState}
 use Rattle.nova_machine.specs.Seen.{beside, erased}
 use Rattle.state_file.specs.Listening.{with_port}
-use Rattle.state_file.specs.Parts.{state_in}
+use Rattle.state_text.specs.Parts.{state_in}
 use Rattle.state_file.specs.PutBack.{machine_from}
-use Rattle.state_file.specs.Restoring.{with_all}
+use Rattle.saved_files.specs.Restoring.{with_all}
 use Rattle.state_file.proofs.PuttingLemmas.{is-put-back}
 use Rattle.state_file.proofs.setting.set_state.Goals as goal
 

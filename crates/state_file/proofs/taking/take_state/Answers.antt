@@ -2,11 +2,12 @@ use Rattle.std.proofs.Common.{◌≡◌, ◌≤◌, List, Option, length, map, s
 use Rattle.host_lines.specs.State.{LineState}
 use Rattle.telnet_lines.specs.Joined.{seen_line}
 use Rattle.unit_files.specs.Attachments.{Held, attachments_of, file_units}
-use Rattle.state_file.specs.Parts.{State, state_in}
-use Rattle.state_file.specs.Restoring.{files_in}
-use Rattle.state_file.specs.Saving.{file_places, saved_files}
-use Rattle.state_file.specs.Valid.{Fits}
-use Rattle.state_file.specs.Session.{saved_machine, saved_port, saved_watch}
+use Rattle.state_text.specs.Parts.{State, state_in}
+use Rattle.saved_files.specs.Restoring.{files_in}
+use Rattle.saved_files.specs.Saving.{file_places, saved_files}
+use Rattle.state_text.specs.Valid.{Fits}
+use Rattle.state_file.specs.Session.{saved_machine, saved_port}
+use Rattle.state_text.specs.SavedWatch.{saved_watch}
 use Rattle.state_file.proofs.TakenFits.{names-fit}
 use Rattle.state_file.proofs.TakenStates.{taken-is-saved}
 use Rattle.state_file.proofs.taking.take_state.Goals as goal

@@ -2,7 +2,7 @@ use Rattle.std.proofs.Common.{◌≡◌, ◌∙◌, sym, map, Some}
 use Rattle.std.specs.Prelude.{slice_get}
 use Rattle.std.proofs.lemmas.Option.{slice_get-map}
 use Rattle.state_file.specs.Session.{saved_event}
-use Rattle.state_file.proofs.TakingLemmas.{grows}
+use Rattle.state_text.proofs.TakenLists.{grows}
 use Rattle.state_file.proofs.taking_machine.taken_agenda.Goals as goal
 
 pub loop-k-preserved : goal.loop-k-preserved

@@ -1,8 +1,8 @@
 use Rattle.std.proofs.Common.{◌≡◌, List, map, take, sym, subst, ap, ◌∙◌}
 use Rattle.event_queue.specs.EventList.{Event}
 use Rattle.nova_memory.specs.Memory.{MemoryState, IsMemory, IsSize}
-use Rattle.state_file.specs.Parts.{MachinePart, unit_in}
-use Rattle.state_file.specs.Valid.{MachineFits}
+use Rattle.state_text.specs.Parts.{MachinePart, unit_in}
+use Rattle.state_text.specs.Valid.{MachineFits}
 use Rattle.state_file.specs.Session.{saved_event, saved_machine}
 use Rattle.state_file.proofs.TakenFits.{machine-fits}
 use Rattle.state_file.proofs.taking_machine.taken_machine.Goals as goal

@@ -1,6 +1,7 @@
 use Rattle.std.proofs.Common.{None, sym, ◌∙◌, arith}
 use Rattle.std.proofs.lemmas.List.{take_all}
-use Rattle.state_file.proofs.TakingLemmas.{grows, taken-all, register-of, count-of}
+use Rattle.state_file.proofs.TakingLemmas.{register-of, count-of}
+use Rattle.state_text.proofs.TakenLists.{grows, taken-all}
 use Rattle.state_file.proofs.taking_machine.taken_registers.Goals as goal
 
 pub loop-i-preserved : goal.loop-i-preserved

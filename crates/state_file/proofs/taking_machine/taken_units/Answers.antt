@@ -3,11 +3,12 @@ use Rattle.std.proofs.lemmas.List.{length-map, take_all}
 use Rattle.unit_trait.specs.declared.kind.Kind.{Kind}
 use Rattle.unit_trait.specs.Kinds.{code_of}
 use Rattle.unit_list.specs.Bus.{kinds_of, unit_at}
-use Rattle.state_file.specs.declared.saved.SavedUnit.{SavedUnit}
-use Rattle.state_file.specs.Parts.{unit_in}
-use Rattle.state_file.specs.Ranges.{standard_kinds}
+use Rattle.state_text.specs.declared.saved.SavedUnit.{SavedUnit}
+use Rattle.state_text.specs.Parts.{unit_in}
+use Rattle.state_text.specs.Ranges.{standard_kinds}
 use Rattle.state_file.specs.Session.{saved_unit}
-use Rattle.state_file.proofs.TakingLemmas.{takes, unit-stands, unit-place}
+use Rattle.state_file.proofs.TakingLemmas.{unit-stands, unit-place}
+use Rattle.state_text.proofs.TakenLists.{takes}
 use Rattle.state_file.proofs.taking_machine.taken_units.Goals as goal
 
 pub loop-position-preserved : goal.loop-position-preserved

@@ -1,6 +1,6 @@
 use Rattle.std.proofs.Common.{◌≡◌, take}
 use Rattle.std.specs.Prelude.{map}
-use Rattle.state_file.specs.Parts.{unit_in}
+use Rattle.state_text.specs.Parts.{unit_in}
 use Rattle.state_file.specs.Session.{saved_unit}
 use Rattle.state_file.proofs.taking_machine.taken_units.Given as goal
 

@@ -1,6 +1,6 @@
 use Rattle.std.proofs.Common.{◌≡◌, List, ℕ, take, drop, arith, ap, subst, ◌∙◌}
 use Rattle.std.proofs.lemmas.List.{length-append, length-take, length-drop}
-use Rattle.host_files.specs.State.{content}
+use Rattle.file_traits.specs.State.{content}
 use Rattle.sha2.specs.Hashers.{Holds256}
 use Rattle.whole_files.proofs.Counts.{all-same}
 use Rattle.unit_files.proofs.Digests.{next-piece, same-content}

@@ -1,5 +1,5 @@
 use Rattle.std.proofs.Common.{◌≡◌, ◌≤◌, ◌-◌, ℕ, IsTrue, length, take}
-use Rattle.host_files.specs.State.{content}
+use Rattle.file_traits.specs.State.{content}
 use Rattle.sha2.specs.Hashers.{Holds256}
 use Rattle.unit_files.proofs.digest.digest_of.Given as goal
 

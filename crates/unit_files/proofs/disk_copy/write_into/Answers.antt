@@ -1,5 +1,5 @@
 use Rattle.std.proofs.Common.{◌<◌, ◌*◌, length, rules}
-use Rattle.host_files.proofs.Writes.{written}
+use Rattle.file_traits.proofs.Writes.{written}
 use Rattle.unit_files.specs.Buffer.{sector_bytes, with_sector}
 use Rattle.unit_files.proofs.disk_copy.write_into.Goals as goal
 

@@ -1,7 +1,7 @@
 use Rattle.std.proofs.Common.{◌≡◌, ℕ, Bool, true, false, List, [], sym, ap, ◌∙◌, rules, if◌then◌else◌}
 use Rattle.std.proofs.lemmas.List.{nil_from_length}
-use Rattle.host_files.specs.Lists.{changed, overwritten}
-use Rattle.host_files.specs.State.{name_at}
+use Rattle.file_traits.specs.Lists.{changed, overwritten}
+use Rattle.file_traits.specs.State.{name_at}
 use Rattle.unit_files.proofs.WrittenPages.{unchanged}
 use Rattle.unit_files.proofs.flushing.write_page.Goals as goal
 use Rattle.unit_files.proofs.flushing.write_page.Goals.{then-not-marked-via-then-not-marked, then-not-marked-via-else-not-marked+then-is_empty}

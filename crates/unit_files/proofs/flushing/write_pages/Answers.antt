@@ -1,7 +1,7 @@
 use Rattle.std.proofs.Common.{◌*◌, List, length, drop, refl, ap, sym, ◌∙◌, rules, arith}
 use Rattle.std.proofs.lemmas.List.{length-take}
-use Rattle.host_files.specs.Lists.{changed}
-use Rattle.host_files.specs.State.{Opened, name_at}
+use Rattle.file_traits.specs.Lists.{changed}
+use Rattle.file_traits.specs.State.{Opened, name_at}
 use Rattle.unit_files.specs.Acts.{piece_of, written_pages}
 use Rattle.unit_files.specs.Buffer.{page_bytes, disk_pages}
 use Rattle.unit_files.proofs.WrittenPages.{unchanged, page-written, page-failed, end-within, all-written, claimed}

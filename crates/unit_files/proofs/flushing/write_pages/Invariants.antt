@@ -1,6 +1,6 @@
 use Rattle.std.proofs.Common.{◌≡◌, ℕ, List, take}
-use Rattle.host_files.specs.Lists.{changed}
-use Rattle.host_files.specs.State.{name_at}
+use Rattle.file_traits.specs.Lists.{changed}
+use Rattle.file_traits.specs.State.{name_at}
 use Rattle.unit_files.specs.Acts.{written_pages}
 use Rattle.unit_files.specs.Causes.{IsQuiet}
 use Rattle.unit_files.proofs.flushing.write_pages.Given as goal

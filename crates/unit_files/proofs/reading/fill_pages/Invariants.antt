@@ -1,5 +1,5 @@
 use Rattle.std.proofs.Common.{◌≡◌, ◌≤◌, ◌-◌, ℕ, IsTrue, length, take}
-use Rattle.host_files.specs.State.{content}
+use Rattle.file_traits.specs.State.{content}
 use Rattle.unit_files.proofs.reading.fill_pages.Given as goal
 
 abbrev pub invariant-loop-done : goal.invariant-loop-done

@@ -1,6 +1,6 @@
 use Rattle.std.proofs.Common.{◌≡◌, ◌-◌, ℕ, List, length, min, take, drop, rules, subst, ◌∙◌}
-use Rattle.host_files.specs.Lists.{bytes_of}
-use Rattle.host_files.specs.State.{content, name_at}
+use Rattle.file_traits.specs.Lists.{bytes_of}
+use Rattle.file_traits.specs.State.{content, name_at}
 use Rattle.whole_files.proofs.Counts.{all-same}
 use Rattle.whole_files.proofs.Filled.{filled-more, more-within}
 use Rattle.whole_files.proofs.reading.fill.Goals as goal

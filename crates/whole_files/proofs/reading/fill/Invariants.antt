@@ -1,5 +1,5 @@
 use Rattle.std.proofs.Common.{◌≡◌, ◌≤◌, ◌-◌, ℕ, IsTrue, length, take}
-use Rattle.host_files.specs.State.{content}
+use Rattle.file_traits.specs.State.{content}
 use Rattle.whole_files.proofs.reading.fill.Given as goal
 
 abbrev pub invariant-loop-done : goal.invariant-loop-done

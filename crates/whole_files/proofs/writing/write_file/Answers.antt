@@ -1,8 +1,8 @@
 use Rattle.std.proofs.Common.{◌≡◌, ℕ, IfSome, length, take, ap, sym, ◌∙◌, subst}
 use Rattle.fault_counts.specs.Faults.{CountsFault}
-use Rattle.host_files.specs.declared.files.OpenMode.TheVariants.{Create}
-use Rattle.host_files.specs.FileCalls.{written_count}
-use Rattle.host_files.specs.State.{Opened}
+use Rattle.file_traits.specs.declared.files.OpenMode.TheVariants.{Create}
+use Rattle.file_traits.specs.FileCalls.{written_count}
+use Rattle.file_traits.specs.State.{Opened}
 use Rattle.whole_files.specs.declared.writing.Written.{Written}
 use Rattle.whole_files.specs.Claims.{raised_by}
 use Rattle.whole_files.specs.Writing.{WriteSaid, write_act, said_of_writing, claimed_in_writing, HasWriteShape, write_claims_on}

@@ -1,5 +1,5 @@
 use Rattle.std.proofs.Common.{◌≡◌, ◌+◌, ◌-◌, ◌≤◌, ℕ, drop, subst, arith}
-use Rattle.host_files.specs.State.{content}
+use Rattle.file_traits.specs.State.{content}
 use Rattle.host_adapters.specs.Placed.{IsRead}
 use Rattle.host_adapters.proofs.Pages.{read-rest}
 use Rattle.host_adapters.proofs.paged_files.PagedFiles.keep_behind.Goals as goal

@@ -1,7 +1,7 @@
 use Rattle.std.proofs.Common.{◌≡◌, ◌+◌, ◌-◌, ℕ, List, take, drop, length, ap, sym, ◌∙◌, subst, arith}
 use Rattle.std.proofs.lemmas.List.{drop-drop}
-use Rattle.host_files.specs.declared.files.FileId.{FileId}
-use Rattle.host_files.specs.State.{content}
+use Rattle.file_traits.specs.declared.files.FileId.{FileId}
+use Rattle.file_traits.specs.State.{content}
 use Rattle.host_adapters.specs.Placed.{IsRead}
 use Rattle.host_adapters.proofs.Pages.{read-within}
 use Rattle.host_adapters.proofs.paged_files.PagedFilesFiles.read_at.Goals as goal

@@ -1,5 +1,5 @@
 use Rattle.std.proofs.Common.{◌+◌, ◌≤◌, ◌<◌, length, drop, take, arith}
-use Rattle.host_files.specs.FileCalls.{written_count}
+use Rattle.file_traits.specs.FileCalls.{written_count}
 use Rattle.host_adapters.proofs.Pages.{read-stays-or-none, written-part}
 use Rattle.host_adapters.proofs.paged_files.PagedFilesFiles.write_at.Goals as goal
 

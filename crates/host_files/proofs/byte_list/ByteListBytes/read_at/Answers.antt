@@ -1,6 +1,6 @@
 use Rattle.std.proofs.Common.{◌≡◌, ◌≤◌, ◌-◌, length, min, take, drop, rules}
-use Rattle.host_files.specs.OneList.{longest_list}
-use Rattle.host_files.proofs.Shown.{shown_all}
+use Rattle.file_traits.specs.OneList.{longest_list}
+use Rattle.file_traits.proofs.Shown.{shown_all}
 use Rattle.host_files.proofs.byte_list.ByteListBytes.read_at.Goals as goal
 
 pub returns-clause-reads : goal.returns-clause-reads

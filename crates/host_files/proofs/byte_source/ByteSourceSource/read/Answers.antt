@@ -1,6 +1,6 @@
 use Rattle.std.proofs.Common.{◌≡◌, ◌+◌, ◌-◌, arith, length-drop, drop}
 use Rattle.std.proofs.lemmas.List.{drop-drop}
-use Rattle.host_files.proofs.ReadLemmas.{read_takes}
+use Rattle.file_traits.proofs.ReadLemmas.{read_takes}
 use Rattle.host_files.proofs.byte_source.ByteSourceSource.read.Goals as goal
 
 pub returns-clause-bytes : goal.returns-clause-bytes

@@ -1,5 +1,5 @@
 use Rattle.std.proofs.Common.{◌≡◌, ◌∷◌, ◌++◌, [], true, None, map, ap, sym, is_some, ◌∙◌, List, rules}
-use Rattle.host_files.specs.Lists.{NamedBytes, find_file, with_file, changed, overwritten, resized}
+use Rattle.file_traits.specs.Lists.{NamedBytes, find_file, with_file, changed, overwritten, resized}
 use Rattle.host_files.specs.MemFiles.{named_of, are_there}
 use Rattle.host_files.proofs.Names.{there-changed, refilled, with-new}
 use Rattle.host_files.proofs.mem_files.MemFiles.add_file.Goals as goal

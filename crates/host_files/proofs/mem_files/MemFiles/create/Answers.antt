@@ -1,5 +1,5 @@
 use Rattle.std.proofs.Common.{map, ap, ◌∙◌, List}
-use Rattle.host_files.specs.Lists.{NamedBytes, resized}
+use Rattle.file_traits.specs.Lists.{NamedBytes, resized}
 use Rattle.host_files.specs.MemFiles.{named_of, are_there}
 use Rattle.host_files.proofs.Names.{there-changed}
 use Rattle.host_files.proofs.mem_files.MemFiles.create.Goals as goal

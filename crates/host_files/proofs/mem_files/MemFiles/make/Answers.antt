@@ -1,6 +1,6 @@
 use Rattle.std.proofs.lemmas.List.{length-append}
 use Rattle.std.proofs.Common.{ℕ, length, ◌+◌, ◌≡◌, ◌∷◌, ◌++◌, [], map, ap, sym, is_some, ◌∙◌, List, rules}
-use Rattle.host_files.specs.Lists.{NamedBytes, find_file, with_file}
+use Rattle.file_traits.specs.Lists.{NamedBytes, find_file, with_file}
 use Rattle.host_files.specs.MemFiles.{named_of}
 use Rattle.host_files.proofs.Names.{found-last, with-new}
 use Rattle.host_files.proofs.mem_files.MemFiles.make.Goals as goal

@@ -1,5 +1,5 @@
 use Rattle.std.proofs.Common.{◌≡◌, map, ap, ◌∙◌, List, rules}
-use Rattle.host_files.specs.State.{Opened, without}
+use Rattle.file_traits.specs.State.{Opened, without}
 use Rattle.host_files.specs.MemFiles.{named_of, are_there}
 use Rattle.host_files.proofs.Names.{there-without}
 use Rattle.host_files.proofs.mem_files.MemFilesFiles.close_file.Goals as goal

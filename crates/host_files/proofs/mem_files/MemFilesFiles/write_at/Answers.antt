@@ -1,8 +1,8 @@
 use Rattle.std.proofs.Common.{◌≡◌, take, map, sym, refl, ◌∙◌, rules}
-use Rattle.host_files.specs.Lists.{overwritten}
-use Rattle.host_files.specs.State.{name_at}
+use Rattle.file_traits.specs.Lists.{overwritten}
+use Rattle.file_traits.specs.State.{name_at}
 use Rattle.host_files.specs.MemFiles.{named_of}
-use Rattle.host_files.proofs.Names.{changed-same}
+use Rattle.file_traits.proofs.Changes.{changed-same}
 use Rattle.host_files.proofs.mem_files.MemFilesFiles.write_at.Goals as goal
 
 pub returns-else-store-clause-files : goal.returns-else-store-clause-files

@@ -1,5 +1,5 @@
 use Rattle.std.proofs.Common.{◌≡◌, ◌∷◌, ◌+◌, true, List, ℕ, length, map, string_bytes, subst, ap, ◌∙◌, rules, arith}
-use Rattle.host_files.specs.State.{Opened}
+use Rattle.file_traits.specs.State.{Opened}
 use Rattle.host_files.specs.OpenTable.{TableState, opened_of, all_given}
 use Rattle.host_files.proofs.Tables.{not-open, given-added}
 use Rattle.host_files.proofs.open_table.OpenTable.add.Goals as goal

@@ -2,7 +2,7 @@ use Rattle.std.proofs.Common.{◌≡◌, length, map, slice_index, IsSome, sym, 
 use Rattle.std.proofs.lemmas.Grind.{get_or_default_zero}
 use Rattle.std.proofs.lemmas.List.{get_or-set_same}
 use Rattle.fault_counts.specs.Faults.{raised}
-use Rattle.host_files.specs.State.{opened_at}
+use Rattle.file_traits.specs.State.{opened_at}
 use Rattle.host_files.specs.OpenTable.{TableState, opened_of}
 use Rattle.host_files.proofs.Tables.{open-given}
 use Rattle.host_files.proofs.open_table.OpenTable.raise.Goals as goal

@@ -1,6 +1,6 @@
 use Rattle.std.proofs.Common.{◌≡◌, None, List, length, map, sym, ap, subst, ◌∙◌, rules}
 use Rattle.std.specs.List.{remove}
-use Rattle.host_files.specs.State.{Opened, opened_at, without}
+use Rattle.file_traits.specs.State.{Opened, opened_at, without}
 use Rattle.host_files.specs.OpenTable.{TableState, StandsAt, opened_of, all_given}
 use Rattle.host_files.proofs.Tables.{map-remove, given-without, without-missing}
 use Rattle.host_files.proofs.open_table.OpenTable.remove.Goals as goal

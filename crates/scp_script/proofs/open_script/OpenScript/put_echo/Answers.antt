@@ -1,6 +1,6 @@
 use Rattle.std.proofs.Common.{◌≡◌, true, List, ℕ, [], ◌∷◌, ◌++◌, codes, ap, sym, ◌∙◌, subst}
 use Rattle.std.proofs.lemmas.Result.{err_from_is_err_and}
-use Rattle.host_files.specs.Streams.{AddsPart, Puts}
+use Rattle.file_traits.specs.Streams.{AddsPart, Puts}
 use Rattle.script_text.specs.Filling.{filled}
 use Rattle.scp_script.specs.Scripts.{Script, text_of_line}
 use Rattle.scp_script.proofs.EchoLemmas.{between-first, between-second, between-last, echo-on}

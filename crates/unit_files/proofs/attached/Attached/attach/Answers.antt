@@ -1,5 +1,5 @@
 use Rattle.std.proofs.Common.{◌≡◌, ◌<◌, Some, None, List, Option, subst, sym, rules, refl, arith}
-use Rattle.host_files.specs.State.{Opened}
+use Rattle.file_traits.specs.State.{Opened}
 use Rattle.unit_files.specs.Acts.{is_read_only}
 use Rattle.unit_files.specs.Attachments.{Held, held_at, with_held, file_place}
 use Rattle.unit_files.specs.Open.{AllOpen, Around}

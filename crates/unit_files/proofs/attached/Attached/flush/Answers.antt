@@ -1,7 +1,7 @@
 use Rattle.std.proofs.Common.{◌≡◌, ◌≤◌, ℕ, List, length, Option, true, Some, None, sym, ap, ◌∙◌, rules, arith}
-use Rattle.host_files.specs.Lists.{NamedBytes, changed}
-use Rattle.host_files.specs.State.{name_at}
-use Rattle.host_files.specs.declared.files.FileCall.TheVariants.{Write}
+use Rattle.file_traits.specs.Lists.{NamedBytes, changed}
+use Rattle.file_traits.specs.State.{name_at}
+use Rattle.file_traits.specs.declared.files.FileCall.TheVariants.{Write}
 use Rattle.unit_files.specs.Acts.{Failure, is_due_back, piece_of, failure_at, written_pages, written_back}
 use Rattle.unit_files.specs.Answers.{failure_in}
 use Rattle.unit_files.specs.Attachments.{held_at, is_disk}

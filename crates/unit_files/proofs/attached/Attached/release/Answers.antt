@@ -1,5 +1,5 @@
 use Rattle.std.proofs.Common.{List, Option, refl, subst, sym, ap, ◌∙◌}
-use Rattle.host_files.specs.State.{Opened, without}
+use Rattle.file_traits.specs.State.{Opened, without}
 use Rattle.unit_files.specs.Attachments.{Held, file_place}
 use Rattle.unit_files.specs.Open.{AllOpen, Around}
 use Rattle.unit_files.specs.View.{HoldsFile}

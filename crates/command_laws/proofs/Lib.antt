@@ -1,0 +1,14 @@
+pub mod RefusalLemmas
+pub mod AtRest
+pub mod OwnTexts
+pub mod PassedBreaks
+pub mod ResetLemmas
+pub mod ResumptionLemmas
+pub mod SameCommandLemmas
+pub mod ValidCopies
+pub mod ValidEffect
+pub mod ValidFiles
+pub mod ValidMachines
+pub mod ValidWatch
+pub mod WholeSays
+pub mod SetLemmas

@@ -1,0 +1,261 @@
+-- No state text is that of two sessions: of a session that fits, and of what is read of its text.
+use Rattle.std.proofs.Common.{◌≡◌, ℕ, zero, suc, ◌^◌, ◌<◌, ◌≤◌, true, List, [], ◌∷◌, ◌++◌, get_or, Ok, sym, subst, arith}
+use Rattle.std.specs.Prelude.{nat_le, nat_lt, ◌&&◌, ◌||◌, ◌==◌, not}
+use Rattle.std.specs.List.{AllByRecursion, flat_map}
+use Rattle.std.specs.Int.{w8, w16, w32, w64}
+use Rattle.std.proofs.lemmas.Bool.{and_parts, leb-true}
+use Rattle.std.proofs.lemmas.List.Concat.{flat_map-cons}
+use Rattle.unit_trait.specs.declared.kind.Kind.{Kind}
+use Rattle.unit_trait.specs.declared.kind.Kind.TheVariants.{Dsk, Mta, Lpt, Ptr, Ptp, Clk, Tti, Tto, Tti1, Tto1, Qty}
+use Rattle.state_text.specs.declared.saved.SavedCpu.{SavedCpu}
+use Rattle.state_text.specs.declared.saved.SavedEvent.{SavedEvent}
+use Rattle.state_text.specs.declared.saved.SavedSend.{SavedSend}
+use Rattle.state_text.specs.Parts.{UnitPart, FilePart, BreakPart, ExpectPart, MachinePart, State}
+use Rattle.state_text.specs.Ranges.{is_flag, is_size, is_address, is_time, is_key_count, kind_at, is_position, can_wait, is_free, FilePlace, is_next_unit, only_writes, is_read_only_of, longest_file_of, is_file_length, last_send}
+use Rattle.state_text.specs.Valid.{AreBytes, Follow, IsCpu, CanHold, IsUnit, IsEvent, IsFile, IsBreak, IsExpect, IsSend, Valid, Fits}
+use Rattle.state_text.specs.Reading.{next_number, with_event, place_of, behind_file, behind_break, behind_send, reading}
+use Rattle.state_text.specs.Laws.{CpuHasWidths, UnitHasWidths, EventHasWidths, FileHasWidths, BreakHasWidths, ExpectHasWidths, SendHasWidths, HasWidths}
+use Rattle.state_text.specs.Text.{number_text, word_text, register_text, unit_text, event_text, machine_text, file_text, break_text, expect_text, send_text, watch_text, head, body, text}
+use Rattle.state_text.proofs.MachineLaws.{small_unit}
+use Rattle.state_text.proofs.FitLaws.{texts-are-read}
+use Rattle.state_text.proofs.LooseLaws.{one-to-one}
+use Rattle.state_laws.proofs.SavedFileLemmas.{bytes-both, sha256-bytes}
+
+-- ---- what is valid fits its fields
+
+small-size : (n : ℕ) → is_size n ≡ true → n < 2 ^ 8
+small-size n h = grind arith
+
+small-flag : (n : ℕ) → is_flag n ≡ true → n < 2 ^ 8
+small-flag n h = grind arith
+
+small-address : (n : ℕ) → is_address n ≡ true → n < 2 ^ 16
+small-address n h = grind arith
+
+small-time : (n : ℕ) → is_time n ≡ true → n < 2 ^ 64
+small-time n h = grind arith
+
+small-count : (n : ℕ) → is_key_count n ≡ true → n < 2 ^ 64
+small-count n h = grind arith
+
+small-position : (n : ℕ) → is_position n ≡ true → n < 2 ^ 8
+small-position n h = grind arith
+
+small-event : (events : List SavedEvent) (position unit : ℕ) → can_wait events position unit ≡ true → unit < 2 ^ 8
+small-event events position unit h = small_unit (kind_at position) unit (is_free events position unit) h
+
+small-file : (least : FilePlace) (position unit : ℕ) → is_next_unit least position unit ≡ true → unit < 2 ^ 8
+small-file least position unit h = small_unit (kind_at position) unit (nat_lt least.position position || nat_le least.unit unit) h
+
+small-mark : (kind : Kind) (n : ℕ) → is_read_only_of kind n ≡ true → n < 2 ^ 8
+small-mark kind n h = small-flag n (and_parts (is_flag n) (n == 0 || not (only_writes kind)) h).0
+
+longest : (kind : Kind) → longest_file_of kind ≤ 67108864
+unfolding longest_file_of
+longest Dsk = omega arith
+longest Mta = omega arith
+longest Lpt = omega arith
+longest Ptr = omega arith
+longest Ptp = omega arith
+longest Clk = omega arith
+longest Tti = omega arith
+longest Tto = omega arith
+longest Tti1 = omega arith
+longest Tto1 = omega arith
+longest Qty = omega arith
+
+small-length : (kind : Kind) (n : ℕ) → is_file_length kind n ≡ true → n < 2 ^ 64
+small-length kind n h = below n (longest_file_of kind) (leb-true n (longest_file_of kind) h) (longest kind)
+  where
+    below : (n m : ℕ) → n ≤ m → m ≤ 67108864 → n < 2 ^ 64
+    below n m le short = omega (arith, le, short)
+
+small-break : (least n : ℕ) → (nat_le least n && is_address n) ≡ true → n < 2 ^ 16
+small-break least n h = small-address n (and_parts (nat_le least n) (is_address n) h).1
+
+small-send : (least n : ℕ) → (nat_le least n && nat_le n last_send) ≡ true → n < 2 ^ 64
+small-send least n h = below n (leb-true n last_send (and_parts (nat_le least n) (nat_le n last_send) h).1)
+  where
+    below : (n : ℕ) → n ≤ 2 ^ 62 → n < 2 ^ 64
+    below n le = omega (arith, le)
+
+pub cpu-widths : (c : SavedCpu) → IsCpu c → CpuHasWidths c
+cpu-widths c is = record {
+  size_k = small-size c.size_k is.size_k;
+  four = is.few;
+  acs = is.acs;
+  carry = small-flag c.carry is.carry;
+  pc = small-address c.pc is.pc;
+  on = small-flag c.on is.on;
+  hold = small-flag c.hold is.hold;
+  mask = is.mask;
+  sr = is.sr;
+  stop_dev = small-flag c.stop_dev is.stop_dev;
+  time = small-time c.time is.time;
+  keys_taken = small-count c.keys_taken is.keys_taken;
+}
+
+registers-low : (kind : Kind) (i : ℕ) (registers : List ℕ) → Follow (CanHold kind) next_number i registers → AllByRecursion (λ r. r < 2 ^ 32) registers
+registers-low kind i [] h = tt
+registers-low kind i (r ∷ registers) h = (h.0.0, registers-low kind (next_number i r) registers h.1)
+
+pub units-widths : (i : ℕ) (units : List UnitPart) → Follow IsUnit next_number i units → AllByRecursion UnitHasWidths units
+units-widths i [] h = tt
+units-widths i (u ∷ units) h = (
+  record { position = h.0.byte; registers = registers-low (kind_at u.position) 0 u.registers h.0.registers },
+  units-widths (next_number i u) units h.1,
+)
+
+pub events-widths : (events agenda : List SavedEvent) → Follow IsEvent with_event events agenda → AllByRecursion EventHasWidths agenda
+events-widths events [] h = tt
+events-widths events (e ∷ agenda) h = (
+  record { position = small-position e.position h.0.position; unit = small-event events e.position e.unit h.0.unit; remaining = h.0.remaining },
+  events-widths (with_event events e) agenda h.1,
+)
+
+files-widths : (least : FilePlace) (files : List FilePart) → Follow IsFile behind_file least files → AllByRecursion FileHasWidths files
+files-widths least [] h = tt
+files-widths least (f ∷ files) h = (
+  record {
+    position = h.0.byte;
+    unit = small-file least f.position f.unit h.0.unit;
+    read_only = small-mark (kind_at f.position) f.read_only h.0.read_only;
+    name = h.0.name;
+    size = small-length (kind_at f.position) f.size h.0.size;
+    digest = h.0.digest;
+    bytes = h.0.bytes;
+  },
+  files-widths (behind_file least f) files h.1,
+)
+
+breaks-widths : (least : ℕ) (breaks : List BreakPart) → Follow IsBreak behind_break least breaks → AllByRecursion BreakHasWidths breaks
+breaks-widths least [] h = tt
+breaks-widths least (b ∷ breaks) h = (
+  record { address = small-break least b.address h.0.address; count = h.0.count; actions = h.0.actions.bytes },
+  breaks-widths (behind_break least b) breaks h.1,
+)
+
+expects-widths : (expects : List ExpectPart) → AllByRecursion IsExpect expects → AllByRecursion ExpectHasWidths expects
+expects-widths [] h = tt
+expects-widths (e ∷ expects) h = (record { count = h.0.count; text = h.0.text; actions = h.0.actions.bytes }, expects-widths expects h.1)
+
+sends-widths : (least : ℕ) (sends : List SavedSend) → Follow IsSend behind_send least sends → AllByRecursion SendHasWidths sends
+sends-widths least [] h = tt
+sends-widths least (s ∷ sends) h = (record { time = small-send least s.time h.0.time; byte = h.0.byte }, sends-widths (behind_send least s) sends h.1)
+
+pub valid-widths : (v : State) → Valid v → HasWidths v
+valid-widths v is = record {
+  cpu = cpu-widths v.machine.cpu is.machine.cpu;
+  words = is.machine.words;
+  units = units-widths 0 v.machine.units is.machine.units;
+  agenda = events-widths [] v.machine.agenda is.machine.agenda;
+  files = files-widths (place_of 0 0) v.files is.files.each;
+  port = is.port;
+  breaks = breaks-widths 0 v.watch.breaks is.watch.breaks;
+  expects = expects-widths v.watch.expects is.watch.expects;
+  tail = is.watch.tail;
+  sends = sends-widths 0 v.watch.sends is.watch.sends;
+}
+
+-- ---- a text is of bytes
+
+byte-text : (n : ℕ) → AreBytes (number_text w8 n)
+unfolding number_text
+byte-text n = (omega arith, tt)
+
+half-text : (n : ℕ) → AreBytes (number_text w16 n)
+unfolding number_text
+half-text n = (omega arith, (omega arith, tt))
+
+word-text : (n : ℕ) → AreBytes (number_text w32 n)
+unfolding number_text
+word-text n = (omega arith, (omega arith, (omega arith, (omega arith, tt))))
+
+long-text : (n : ℕ) → AreBytes (number_text w64 n)
+unfolding number_text
+long-text n = (omega arith, (omega arith, (omega arith, (omega arith, (omega arith, (omega arith, (omega arith, (omega arith, tt))))))))
+
+each-text : {A : Type 0} (P : A → Type 0) (write : A → List ℕ) (xs : List A) → ((x : A) → P x → AreBytes (write x)) → AllByRecursion P xs
+    → AreBytes (flat_map write xs)
+each-text P write [] bytes all = tt
+each-text P write (x ∷ xs) bytes all =
+    subst AreBytes (sym (flat_map-cons write x xs)) (bytes-both (write x) (flat_map write xs) (bytes x all.0) (each-text P write xs bytes all.1))
+
+abbrev Any : {A : Type 0} → A → Type 0
+Any x = Unit {0}
+
+any-all : {A : Type 0} (xs : List A) → AllByRecursion Any xs
+any-all [] = tt
+any-all (x ∷ xs) = (tt, any-all xs)
+
+any-text : {A : Type 0} (write : A → List ℕ) (xs : List A) → ((x : A) → AreBytes (write x)) → AreBytes (flat_map write xs)
+any-text write xs bytes = each-text Any write xs (λ x any. bytes x) (any-all xs)
+
+-- one behind the other
+both : (xs ys : List ℕ) → AreBytes xs → AreBytes ys → AreBytes (xs ++ ys)
+both xs ys first second = bytes-both xs ys first second
+
+unit-bytes : (u : UnitPart) → AreBytes (unit_text u)
+unit-bytes u = both _ _ (byte-text u.position) (both _ _ (byte-text _) (any-text register_text u.registers word-text))
+
+event-bytes : (e : SavedEvent) → AreBytes (event_text e)
+event-bytes e = both _ _ (byte-text e.position) (both _ _ (byte-text e.unit) (word-text e.remaining))
+
+machine-bytes : (m : MachinePart) → AreBytes (machine_text m)
+unfolding machine_text
+machine-bytes m =
+    let c = m.cpu in
+    both _ _
+    (both _ _ (both _ _ (byte-text c.size_k) (both _ _ (any-text word_text c.acs half-text) (both _ _ (byte-text c.carry) (half-text c.pc))))
+    (both _ _
+    (both _ _ (byte-text c.on) (both _ _ (byte-text c.hold) (both _ _ (half-text c.mask) (both _ _ (half-text c.sr) (byte-text c.stop_dev)))))
+    (both _ _ (long-text c.time) (long-text c.keys_taken))))
+    (both _ _ (any-text word_text m.words half-text)
+    (both _ _ (both _ _ (byte-text _) (any-text unit_text m.units unit-bytes)) (both _ _ (half-text _) (any-text event_text m.agenda event-bytes))))
+
+file-bytes : (f : FilePart) → FileHasWidths f → AreBytes (file_text f)
+file-bytes f has =
+    both _ _ (byte-text f.position) (both _ _ (byte-text f.unit) (both _ _ (byte-text f.read_only)
+    (both _ _ (both _ _ (half-text _) has.name) (both _ _ (long-text f.size) has.bytes))))
+
+break-bytes : (b : BreakPart) → BreakHasWidths b → AreBytes (break_text b)
+break-bytes b has = both _ _ (half-text b.address) (both _ _ (word-text b.count) (both _ _ (half-text _) has.actions))
+
+expect-bytes : (e : ExpectPart) → ExpectHasWidths e → AreBytes (expect_text e)
+expect-bytes e has = both _ _ (word-text e.count) (both _ _ (both _ _ (byte-text _) has.text) (both _ _ (half-text _) has.actions))
+
+send-bytes : (s : SavedSend) → AreBytes (send_text s)
+send-bytes s = both _ _ (long-text s.time) (byte-text s.byte)
+
+watch-bytes : (v : State) → HasWidths v → AreBytes (watch_text v.watch)
+unfolding watch_text
+watch-bytes v has =
+    both _ _ (both _ _ (half-text _) (each-text BreakHasWidths break_text _ break-bytes has.breaks))
+    (both _ _ (both _ _ (byte-text _) (each-text ExpectHasWidths expect_text _ expect-bytes has.expects))
+    (both _ _ (both _ _ (byte-text _) has.tail) (both _ _ (half-text _) (any-text send_text _ send-bytes))))
+
+body-bytes : (v : State) → HasWidths v → AreBytes (body v)
+unfolding body
+body-bytes v has =
+    let front : AreBytes head = (omega arith, (omega arith, (omega arith, (omega arith, (omega arith, (omega arith, (omega arith, (omega arith, tt)))))))) in
+    both head _ front
+    (both _ _ (half-text 1) (both _ _ (machine-bytes v.machine)
+    (both _ _ (both _ _ (byte-text _) (each-text FileHasWidths file_text _ file-bytes has.files))
+    (both _ _ (half-text _) (watch-bytes v has)))))
+
+text-bytes : (v : State) → HasWidths v → AreBytes (text v)
+unfolding text
+text-bytes v has = both _ _ (body-bytes v has) (sha256-bytes (body v))
+
+byte-at : (bytes : List ℕ) (i : ℕ) → AreBytes bytes → get_or bytes i 0 < 2 ^ 8
+byte-at [] i all = omega arith
+byte-at (b ∷ bytes) zero all = all.0
+byte-at (b ∷ bytes) (suc i) all = byte-at bytes i all.1
+
+-- ---- what is read
+
+-- what is read of the text of a session that fits is that session
+pub read-own : (v w : State) → Fits v → HasWidths v → reading (text v) ≡ Ok w → w ≡ v
+read-own v w fits widths read =
+    let found = texts-are-read.only (text v) w (λ i. byte-at (text v) i (text-bytes v widths)) read in
+    one-to-one w v (texts-are-read.fits w found.0) (valid-widths w found.0) fits widths (sym found.1)

@@ -1,0 +1,5 @@
+pub mod Laws
+pub mod PassedBreaks
+pub mod Resumption
+pub mod SameCommand
+pub mod Valid

@@ -1,0 +1,141 @@
+-- What a command leaves of the ports and the connections of the outside, told or not.
+use Rattle.std.specs.Prelude.{◌≡◌, ◌≢◌, ◌⊎◌, ◌≤◌, ℕ, Bool, true, false, IsTrue, List, [], ◌∷◌, length, map, Option, Some, None, IfSome, Result, Ok, Err}
+use Rattle.std.specs.List.{AllByRecursion}
+use Rattle.fault_counts.specs.Faults.{raised}
+use Rattle.host_lines.specs.Traffic.{Peer}
+use Rattle.host_lines.specs.declared.lines.ListenFault.{ListenFault}
+use Rattle.host_lines.specs.declared.lines.ListenFault.TheVariants as listen
+use Rattle.host_lines.specs.Told.{IsFirst, record_in}
+use Rattle.host_lines.specs.LineCalls.{Listens, ports_after, listen_faults}
+use Rattle.host_lines.specs.State.{LineState, IsListened, parties, without_one}
+use Rattle.telnet_lines.specs.Line.{LineOf, unconnected}
+use Rattle.telnet_lines.specs.Joined.{seen_line}
+use Rattle.telnet_lines.specs.Many.{AreApart}
+use Rattle.nova_machine.specs.LineChanges.{HasConnection}
+use Rattle.scp_parser.specs.Command.{Request, AttachPort, Restore}
+use Rattle.command_session.specs.declared.next.Next.TheVariants.{Go}
+use Rattle.command_session.specs.declared.fault.CommandFault.TheVariants.{OutOfMemory, OutOfRange, PortFailed, AlreadyAttached, NotAttached}
+use Rattle.command_session.specs.Reply.{Answer}
+use Rattle.command_session.specs.LineEffects.{is_port}
+
+-- one of the lines has that port
+abbrev pub HasPort : ℕ → List (LineOf ℕ) → Type 0
+HasPort port [] = ⊥
+HasPort port (line ∷ lines) = (line.port ≡ Some port) ⊎ HasPort port lines
+
+-- the port of each line is listened on
+abbrev pub AreListened : LineState → List (LineOf ℕ) → Type 0
+AreListened s lines = AllByRecursion (λ (line : LineOf ℕ). IfSome line.port (IsListened s)) lines
+
+-- What a call leaves: each port that is listened on and each connection that stands is one that a line has, or was there
+-- before and no line's; the count of faults has not fallen. Where the machine has one line at the most, its port is listened
+-- on if it was before. Where the outside tells what comes, and no two lines have one connection, it goes on to, and a record of
+-- answers has grown at its end.
+pub record LinesLeft (tells : Bool) (old : LineState) (before : List (LineOf ℕ)) (new : LineState) (after : List (LineOf ℕ)) : Type 0 where
+  pub ports : (port : ℕ) → IsTrue (new.listens port) → HasPort port after ⊎ (IsTrue (old.listens port) × (¬ HasPort port before))
+  pub owned : (conn : ℕ) → IsTrue (new.stands conn) → HasConnection conn after ⊎ (IsTrue (old.stands conn) × (¬ HasConnection conn before))
+  pub later : old.faults ≤ new.faults
+  pub many : length after ≡ length before
+  pub listened : length before ≤ 1 → AreListened old before → AreListened new after
+  pub told : IsTrue tells → AreApart old before → AreApart new after × IsFirst (record_in old.told) (record_in new.told)
+
+-- ---- giving up a port and a connection
+
+-- all that some are, but that number, where there is one
+abbrev pub without_any : Option ℕ → (ℕ → Bool) → ℕ → Bool
+without_any None are = are
+without_any (Some number) are = without_one number are
+
+-- A port was given up, and a connection was ended, where there was one. Nothing that comes was taken, and nothing sent.
+pub record GivesUp (port connection : Option ℕ) (old new : LineState) : Type 0 where
+  pub told : new.told ≡ old.told
+  pub listens : new.listens ≡ without_any port old.listens
+  pub stands : new.stands ≡ without_any connection old.stands
+  pub sent : new.sent ≡ old.sent
+  pub faults : new.faults ≡ old.faults
+
+-- what is seen of the lines has changed so, and nothing that comes was taken and nothing sent
+pub record SeenAs (change : List (LineOf Peer) → List (LineOf Peer)) (old : LineState) (before : List (LineOf ℕ)) (new : LineState) (after : List (LineOf ℕ)) : Type 0 where
+  pub lines : map (seen_line new) after ≡ change (map (seen_line old) before)
+  pub told : new.told ≡ old.told
+  pub sent : new.sent ≡ old.sent
+
+-- ---- a listening that came to nothing
+
+-- nothing has changed but the count of faults, and what is told of the call
+pub record NotListened (count : ℕ) (old new : LineState) : Type 0 where
+  pub listens : new.listens ≡ old.listens
+  pub stands : new.stands ≡ old.stands
+  pub behind : parties new ≡ parties old
+  pub sent : new.sent ≡ old.sent
+  pub counted : new.faults ≡ count
+
+-- a port is listened on from then on, or is not
+pub record Listened (tells : Bool) (port : ℕ) (result : Result (Unit {0}) ListenFault) (old new : LineState) : Type 0 where
+  pub told : IsTrue tells → Listens old.told new.told result
+  pub listens : new.listens ≡ ports_after port result old.listens
+  pub stands : new.stands ≡ old.stands
+  pub behind : parties new ≡ parties old
+  pub sent : new.sent ≡ old.sent
+  pub counted : new.faults ≡ listen_faults result old.faults
+
+-- a port was not listened on, or memory ran out before
+abbrev pub Unlistened : Answer → Type 0
+Unlistened (Err PortFailed) = Unit {0}
+Unlistened (Err OutOfMemory) = Unit {0}
+Unlistened answer = ⊥
+
+-- an ATTACH of a port, or a RESTORE, for which that is so
+abbrev pub IsUnlistened : Request → Answer → Type 0
+IsUnlistened (AttachPort kind port) answer = Unlistened answer
+IsUnlistened (Restore force name) answer = Unlistened answer
+IsUnlistened request answer = ⊥
+
+-- `Port not available` comes only where the count of faults rose. Where memory ran out, no call was made.
+abbrev pub AttachCause : Bool → Answer → LineState → LineState → Type 0
+AttachCause tells (Err PortFailed) old new = NotListened (raised old.faults) old new
+AttachCause tells (Err OutOfMemory) old new = NotListened old.faults old new × (IsTrue tells → new.told ≡ old.told)
+AttachCause tells answer old new = Unit {0}
+
+-- it is no answer of any other command
+abbrev pub ListenCause : Bool → Request → Answer → LineState → LineState → Type 0
+ListenCause tells (AttachPort kind port) answer old new = AttachCause tells answer old new
+ListenCause tells (Restore force name) answer old new = AttachCause tells answer old new
+ListenCause tells request answer old new = answer ≢ Err PortFailed
+
+-- what a listening answers
+abbrev pub listened_answer : Result (Unit {0}) ListenFault → Answer
+listened_answer (Ok x) = Ok Go
+listened_answer (Err listen.Failed) = Err PortFailed
+listened_answer (Err listen.OutOfMemory) = Err OutOfMemory
+
+abbrev pub listened_line : ℕ → Result (Unit {0}) ListenFault → LineOf ℕ → LineOf ℕ
+listened_line port (Ok x) line = unconnected (Some port)
+listened_line port (Err fault) line = line
+
+-- a port within its range was to be listened on
+pub record Tried (tells : Bool) (port : ℕ) (answer : Answer) (old : LineState) (before : LineOf ℕ) (new : LineState) (after : LineOf ℕ) : Type 0 where
+  pub result : Result (Unit {0}) ListenFault
+  pub answer_is : answer ≡ listened_answer result
+  pub line_is : after ≡ listened_line port result before
+  pub listened : Listened tells port result old new
+
+-- Nothing was asked of the outside, and the line is as it was.
+pub record Untried (answer is : Answer) (old : LineState) (before : LineOf ℕ) (new : LineState) (after : LineOf ℕ) : Type 0 where
+  pub answer_is : answer ≡ is
+  pub line_is : after ≡ before
+  pub lines_are : new ≡ old
+
+-- A line that has a port is refused another one, and so is a port out of its range.
+abbrev pub ranged : Bool → Bool → ℕ → Answer → LineState → LineOf ℕ → LineState → LineOf ℕ → Type 0
+ranged true tells port answer old before new after = Tried tells port answer old before new after
+ranged false tells port answer old before new after = Untried answer (Err OutOfRange) old before new after
+
+abbrev pub attaches_by : Option ℕ → Bool → ℕ → Answer → LineState → LineOf ℕ → LineState → LineOf ℕ → Type 0
+attaches_by None tells port answer old before new after = ranged (is_port port) tells port answer old before new after
+attaches_by (Some p) tells port answer old before new after = Untried answer (Err AlreadyAttached) old before new after
+
+-- what needs a port answers
+abbrev pub needs_port : Option ℕ → Answer
+needs_port None = Err NotAttached
+needs_port (Some port) = Ok Go

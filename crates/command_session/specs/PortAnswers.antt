@@ -1,0 +1,66 @@
+-- What the answer to a command says of the port of the second teletype, whether the outside tells what comes or not.
+use Rattle.std.specs.Prelude.{◌≡◌, ℕ, Bool, true, false, List, [], ◌∷◌, Option, Some, None, IsSome, Ok, Err}
+use Rattle.unit_trait.specs.declared.kind.UnitName.{UnitName}
+use Rattle.host_lines.specs.State.{LineState}
+use Rattle.telnet_lines.specs.Line.{LineOf}
+use Rattle.command_session.specs.declared.fault.CommandFault.TheVariants.{NoSuchName}
+use Rattle.command_session.specs.Reply.{Answer}
+use Rattle.command_session.specs.LineEffects.{is_terminal, closed, hung}
+use Rattle.command_session.specs.LinesLeft.{GivesUp, attaches_by, needs_port}
+
+-- Nothing was asked of the outside, and the lines are as they were.
+pub record LinesStay (old : LineState) (before : List (LineOf ℕ)) (new : LineState) (after : List (LineOf ℕ)) : Type 0 where
+  pub lines : after ≡ before
+  pub outside : new ≡ old
+
+-- a machine without the line of the second teletype
+pub record Lineless (answer : Answer) (old : LineState) (before : List (LineOf ℕ)) (new : LineState) (after : List (LineOf ℕ)) : Type 0 where
+  pub answer_is : answer ≡ Err NoSuchName
+  pub stay : LinesStay old before new after
+
+-- The first line came to this, by the answer of an ATTACH; all others are as they were.
+pub record AttachesFirst (tells : Bool) (port : ℕ) (answer : Answer) (old : LineState) (line : LineOf ℕ) (others : List (LineOf ℕ)) (new : LineState) (after : List (LineOf ℕ)) : Type 0 where
+  pub changed : LineOf ℕ
+  pub lines : after ≡ changed ∷ others
+  pub attaches : attaches_by line.port tells port answer old line new changed
+
+-- ATTACH of a port
+abbrev pub AttachesPort : Bool → ℕ → Answer → LineState → List (LineOf ℕ) → LineState → List (LineOf ℕ) → Type 0
+AttachesPort tells port answer old [] new after = Lineless answer old [] new after
+AttachesPort tells port answer old (line ∷ others) new after = AttachesFirst tells port answer old line others new after
+
+-- The first line came to this, and all others are as they were. Where it had a port, that port was given up, if one was
+-- to be, and its connection ended; else nothing was asked of the outside.
+pub record DropsFirst (changed : LineOf ℕ) (given : Option ℕ) (old : LineState) (line : LineOf ℕ) (others : List (LineOf ℕ)) (new : LineState) (after : List (LineOf ℕ)) : Type 0 where
+  pub lines : after ≡ changed ∷ others
+  pub none : line.port ≡ None → new ≡ old
+  pub outside : IsSome line.port → GivesUp given line.connection old new
+
+-- DETACH of the second teletype
+abbrev pub DetachesPort : Answer → LineState → List (LineOf ℕ) → LineState → List (LineOf ℕ) → Type 0
+DetachesPort answer old [] new after = Lineless answer old [] new after
+DetachesPort answer old (line ∷ others) new after = (answer ≡ needs_port line.port) × DropsFirst (closed line) line.port old line others new after
+
+-- SET of it
+abbrev pub Disconnects : Answer → LineState → List (LineOf ℕ) → LineState → List (LineOf ℕ) → Type 0
+Disconnects answer old [] new after = Lineless answer old [] new after
+Disconnects answer old (line ∷ others) new after = (answer ≡ needs_port line.port) × DropsFirst (hung line) None old line others new after
+
+-- the port of the second teletype is given up, where it has one
+abbrev pub ClosesPort : LineState → List (LineOf ℕ) → LineState → List (LineOf ℕ) → Type 0
+ClosesPort old [] new after = LinesStay old [] new after
+ClosesPort old (line ∷ others) new after = DropsFirst (closed line) line.port old line others new after
+
+-- DETACH ALL and EXIT, where they are done; where they are refused, a unit has kept its file, and the teletype its port
+abbrev pub ClosesAll : Answer → LineState → List (LineOf ℕ) → LineState → List (LineOf ℕ) → Type 0
+ClosesAll (Ok next) old before new after = ClosesPort old before new after
+ClosesAll (Err fault) old before new after = LinesStay old before new after
+
+abbrev pub detaches_by : Bool → Answer → LineState → List (LineOf ℕ) → LineState → List (LineOf ℕ) → Type 0
+detaches_by true answer old before new after = DetachesPort answer old before new after
+detaches_by false answer old before new after = LinesStay old before new after
+
+-- DETACH, by its unit
+abbrev pub DetachesUnit : Option UnitName → Answer → LineState → List (LineOf ℕ) → LineState → List (LineOf ℕ) → Type 0
+DetachesUnit None answer old before new after = ClosesAll answer old before new after
+DetachesUnit (Some unit) answer old before new after = detaches_by (is_terminal unit) answer old before new after

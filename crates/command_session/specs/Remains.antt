@@ -1,0 +1,43 @@
+-- What stands where a command was refused, or where memory ran out in it: all is as it was. Behind a command that
+-- flushes the disk before its own work that may be done, and it stays so.
+use Rattle.std.specs.Prelude.{◌≡◌, ◌⊎◌, Bool, true, false, Option, None, Ok, Err}
+use Rattle.unit_files.specs.Buffer.{disk_unit, no_marks}
+use Rattle.file_commands.specs.declared.note.Subject.{Subject}
+use Rattle.nova_machine.specs.Machine.{MachineState}
+use Rattle.command_session.specs.Live.{Live, CommandState}
+use Rattle.command_session.specs.Nature.{nature}
+use Rattle.command_session.specs.FileEffects.{flushed_files}
+use Rattle.command_session.specs.Asked.{Asked}
+
+-- a machine behind a flush: the disk holds nothing that is to be written back
+abbrev pub flushed_machine : MachineState → MachineState
+flushed_machine m = record m { disk = record m.disk { written = false; marks = no_marks } }
+
+-- the same with all files: that of the disk, by its name, has what the disk holds
+abbrev pub flushed : Live → Live
+flushed live = record live { machine = flushed_machine live.machine; files = flushed_files None disk_unit live }
+
+-- a machine that is left by a command that flushes or does not
+abbrev pub MachineRemains : Bool → MachineState → MachineState → Type 0
+MachineRemains false old new = new ≡ old
+MachineRemains true old new = (new ≡ old) ⊎ (new ≡ flushed_machine old)
+
+-- the same of all that commands work on
+abbrev pub Remains : Bool → Live → Live → Type 0
+Remains false old new = new ≡ old
+Remains true old new = (new ≡ old) ⊎ (new ≡ flushed old)
+
+-- machine and watch tables behind a command that was refused
+pub record AreLeft (flushes : Bool) (old new : CommandState) : Type 0 where
+  pub machine : MachineRemains flushes old.machine new.machine
+  pub watch : new.watch ≡ old.watch
+
+-- whether that which a line asks for flushes
+abbrev pub flushes_of : Asked → Bool
+flushes_of (Ok request) = (nature request).flushes
+flushes_of (Err fault) = false
+
+-- the subject of the file that this reads whole, if it does
+abbrev pub reader_of : Asked → Option Subject
+reader_of (Ok request) = (nature request).reads_whole
+reader_of (Err fault) = None

@@ -1,0 +1,29 @@
+// Which units have files, and which one has a port.
+ghost use Rattle.std.specs.Prelude.{◌≡◌, ◌<◌, true, false};
+ghost use Rattle.command_session.specs.LineEffects.{is_terminal};
+ghost use Rattle.command_session.specs.FileEffects.{lacks_unit};
+
+use nova_machine::Machine;
+use unit_trait::{Kind, Unit, UnitName};
+
+/// Whether a unit is the second teletype, which has a port in place of a file.
+pub fn is_terminal(unit: UnitName) -> bool
+    ensures { result ≡ is_terminal unit }
+{
+    match unit.kind {
+        Kind::Tti1 => true,
+        _ => false,
+    }
+}
+
+/// Whether a unit has no files, or a machine no unit of its kind.
+pub fn lacks_unit<U: Unit>(machine: &Machine<U>, unit: UnitName) -> bool
+    ensures { result ≡ lacks_unit machine.now unit }
+{
+    match unit.kind {
+        Kind::Dsk | Kind::Mta | Kind::Lpt | Kind::Ptr | Kind::Ptp => {
+            !machine.has_unit(unit.kind)
+        }
+        _ => true,
+    }
+}

@@ -1,0 +1,64 @@
+-- What the commands do that work on files and lines of the host.
+use Rattle.std.specs.Prelude.{◌≡◌, ℕ, Bool, List, Ok, Err}
+use Rattle.file_traits.specs.State.{FileState}
+use Rattle.host_lines.specs.State.{LineState}
+use Rattle.telnet_lines.specs.Line.{LineOf}
+use Rattle.file_commands.specs.Notes.{CommandNote}
+use Rattle.scp_parser.specs.Command.{Request, Attach, AttachPort, Detach, Disconnect, Do, Exit, Load, Dump}
+use Rattle.command_session.specs.declared.next.Next.TheVariants.{Ran}
+use Rattle.command_session.specs.declared.fault.CommandFault.TheVariants.{Console}
+use Rattle.command_session.specs.Live.{Live, CommandState}
+use Rattle.command_session.specs.Reply.{Answer, Reply, goes}
+use Rattle.command_session.specs.FileEffects.{attach_reply, detach_one_or_all}
+use Rattle.command_session.specs.LineEffects.{attach_port_reply, disconnect_reply}
+use Rattle.command_session.specs.ExitEffects.{exit_reply}
+use Rattle.command_session.specs.TapeEffects.{load_reply, dump_reply}
+use Rattle.command_session.specs.FileWorks.{AttachWorks, DoWorks, LoadWorks}
+use Rattle.command_session.specs.PortAnswers.{LinesStay, AttachesPort, DetachesUnit, Disconnects, ClosesAll}
+use Rattle.host_commands.specs.DoEffects.{do_reply}
+
+-- such a command, where these calls on files fail; of the others it is not said here
+abbrev pub host_effect : List CommandNote → Live → Request → Reply
+host_effect notes live (Attach option unit name) = attach_reply notes live option unit name
+host_effect notes live (AttachPort kind port) = attach_port_reply live port
+host_effect notes live (Detach unit) = detach_one_or_all notes live unit
+host_effect notes live (Disconnect kind) = disconnect_reply live
+host_effect notes live (Do echo strict name arguments) = do_reply notes live echo strict name
+host_effect notes live (Exit status) = exit_reply notes live status
+host_effect notes live (Load name) = load_reply notes live name
+host_effect notes live (Dump from to name) = dump_reply notes live from to name
+host_effect notes live request = goes live
+
+-- a command that works on files or lines, but for SAVE and RESTORE
+abbrev pub IsHosted : Request → Type 0
+IsHosted (Attach option unit name) = Unit {0}
+IsHosted (AttachPort kind port) = Unit {0}
+IsHosted (Detach unit) = Unit {0}
+IsHosted (Disconnect kind) = Unit {0}
+IsHosted (Do echo strict name arguments) = Unit {0}
+IsHosted (Exit status) = Unit {0}
+IsHosted (Load name) = Unit {0}
+IsHosted (Dump from to name) = Unit {0}
+IsHosted request = ⊥
+
+-- it runs nothing and prints nothing
+abbrev pub IsHostAnswer : Answer → Type 0
+IsHostAnswer (Ok (Ran stop)) = ⊥
+IsHostAnswer (Err Console) = ⊥
+IsHostAnswer answer = Unit {0}
+
+-- What it does, whatever its file holds. Of a DUMP and a DO the machine is as it was.
+abbrev pub HostWorks : Request → Answer → CommandState → CommandState → FileState → FileState → Type 0
+HostWorks (Attach option unit name) answer s t old new = AttachWorks option unit name answer s.machine t.machine × (t.watch ≡ s.watch)
+HostWorks (Do echo strict name arguments) answer s t old new = DoWorks answer old new × (t.machine ≡ s.machine) × (t.watch ≡ s.watch)
+HostWorks (Load name) answer s t old new = LoadWorks answer s.machine t.machine old new × (t.watch ≡ s.watch)
+HostWorks (Dump from to name) answer s t old new = (t.machine ≡ s.machine) × (t.watch ≡ s.watch)
+HostWorks request answer s t old new = Unit {0}
+
+-- what its answer says of the lines
+abbrev pub HostLines : Bool → Request → Answer → LineState → List (LineOf ℕ) → LineState → List (LineOf ℕ) → Type 0
+HostLines tells (AttachPort kind port) answer old before new after = AttachesPort tells port answer old before new after
+HostLines tells (Detach unit) answer old before new after = DetachesUnit unit answer old before new after
+HostLines tells (Disconnect kind) answer old before new after = Disconnects answer old before new after
+HostLines tells (Exit status) answer old before new after = ClosesAll answer old before new after
+HostLines tells request answer old before new after = LinesStay old before new after

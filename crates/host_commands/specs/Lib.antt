@@ -1,0 +1,2 @@
+pub mod DoEffects
+pub mod HostEffect

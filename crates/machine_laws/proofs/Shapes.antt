@@ -1,0 +1,156 @@
+-- A turn and a run keep of which kinds the units are, what is attached, and how many lines there are.
+use Rattle.std.proofs.Common.{◌≡◌, inl, inr, ℕ, Bool, List, [], length, slice_get, slice_set, Option, Some, None, option_map, Result, Ok, Err, refl, sym, subst, ◌∙◌}
+use Rattle.std.proofs.lemmas.List.{length-set}
+use Rattle.observations.specs.Observations.{Observation, StandsAt}
+use Rattle.observations.proofs.MadeLemmas.{stands-either}
+use Rattle.host_lines.specs.Traffic.{Peer, Ahead}
+use Rattle.telnet_lines.specs.Line.{LineOf}
+use Rattle.telnet_lines.specs.Poll.{polled}
+use Rattle.unit_trait.specs.declared.kind.UnitName.{UnitName}
+use Rattle.unit_trait.specs.declared.calls.Want.{Want}
+use Rattle.unit_trait.specs.declared.calls.Want.TheVariants as want
+use Rattle.unit_trait.specs.declared.calls.Got.{Got}
+use Rattle.unit_trait.specs.Kinds.{code_of}
+use Rattle.unit_trait.specs.Calls.{Due, Answered}
+use Rattle.unit_list.proofs.Calls.{after-kinds}
+use Rattle.unit_files.specs.Acts.{Failure}
+use Rattle.nova_machine.specs.declared.machine.Stop.{Stop}
+use Rattle.nova_machine.specs.Notes.{UnitNote, RunNote}
+use Rattle.memory_transfer.specs.Tapes.{NoAnswer}
+use Rattle.nova_machine.specs.Seen.{Seen, with_machine}
+use Rattle.nova_machine.specs.Parts.{Part, silent, behind_made, followed}
+use Rattle.nova_machine.specs.Turned.{Turned, still}
+use Rattle.nova_machine.specs.OnLines.{Lined, lined_by, put_line, put_got, lined, sends}
+use Rattle.nova_machine.specs.Wants.{prints}
+use Rattle.nova_machine.specs.Service.{asked, answered, hosted, replied, own_service, behind_line, line_service, service, taken, lined_at, want_at}
+use Rattle.nova_machine.specs.Turn.{breaks_tested, turn}
+use Rattle.nova_machine.specs.Run.{run}
+use Rattle.machine_laws.specs.ValidLaws.{StaysAs, KeepsShape}
+use Rattle.nova_machine.proofs.Walks.{OfTurns, OfRuns, walk-turn, walk-run}
+use Rattle.nova_machine.proofs.EachService.{each-service, sends-nowhere}
+use Rattle.nova_machine.proofs.Leaves.{Leaves, leaves-fetch, leaves-interrupt}
+
+stays : (s : Seen) → StaysAs s s
+stays s = record { kinds = refl; slots = refl; own = refl; count = refl }
+
+stays-then : (s t u : Seen) → StaysAs s t → StaysAs t u → StaysAs s u
+stays-then s t u one two = record { kinds = two.kinds ∙ one.kinds; slots = two.slots ∙ one.slots; own = two.own ∙ one.own; count = two.count ∙ one.count }
+
+-- nothing is made, or what is made comes where the shape is as it was
+keeps-silent : (stop : Option Stop) (s t : Seen) → StaysAs s t → KeepsShape s (silent stop t)
+keeps-silent stop s t is = record { after = is; made = λ u h. absurd h }
+
+keeps-behind : (s : Seen) (made : List (Observation Seen)) (p : Part) → ((t : Seen) → StandsAt t made → StaysAs s t) → KeepsShape s p → KeepsShape s (behind_made made p)
+keeps-behind s made p first is = record {
+  after = is.after;
+  made = λ t h. elim (stands-either t made p.made h) [ inl x ↦ first t x | inr x ↦ is.made t x ];
+}
+
+-- from a state that has the shape of the first
+keeps-from : (s t : Seen) (p : Part) → StaysAs s t → KeepsShape t p → KeepsShape s p
+keeps-from s t p is keeps = record { after = stays-then s t p.after is keeps.after; made = λ u h. stays-then s t u is (keeps.made u h) }
+
+keeps-followed : (s : Seen) (made : List (Observation Seen)) (stop : Option Stop) (next : Seen) (goes_on : Seen → Part) → ((t : Seen) → StandsAt t made → StaysAs s t) → StaysAs s next
+    → ((t : Seen) → KeepsShape t (goes_on t)) → KeepsShape s (followed made stop next goes_on)
+keeps-followed s made (Some stop) next goes_on first is more = record { after = is; made = first }
+keeps-followed s made None next goes_on first is more = keeps-behind s made (goes_on next) first (keeps-from s next (goes_on next) is (more next))
+
+keeps-then : (s : Seen) (p : Part) (goes_on : Seen → Part) → KeepsShape s p → ((next : Seen) → KeepsShape next (goes_on next)) → KeepsShape s (followed p.made p.stop p.after goes_on)
+keeps-then s p goes_on first more = keeps-followed s p.made p.stop p.after goes_on first.made first.after more
+
+-- ---- a service
+
+lined-count : (time : ℕ) (w : Want) (lines : List (LineOf Peer)) (ahead : Ahead) (l : Lined) → lined time w lines ahead ≡ Some l → length l.lines ≡ length lines
+unfolding lined
+lined-count time (want.LineKey n) lines ahead l there = by (slice_get lines n) there
+  where
+    by : (o : Option (LineOf Peer)) → option_map (λ line. lined_by n lines (polled time line ahead)) o ≡ Some l → length l.lines ≡ length lines
+    by None there = absurd (cc)
+    by (Some line) there =
+        let same : lined_by n lines (polled time line ahead) ≡ l = cc in
+        subst (λ (x : Lined). length x.lines ≡ length lines) same (length-set lines n (polled time line ahead).line)
+lined-count time (want.LinePut n byte) lines ahead l there = by (slice_get lines n) there
+  where
+    by : (o : Option (LineOf Peer)) → option_map (λ line. record { got = put_got line; sent = []; lines = slice_set lines n (put_line byte line); ahead = ahead }) o ≡ Some l
+        → length l.lines ≡ length lines
+    by None there = absurd (cc)
+    by (Some line) there =
+        let done : Lined = record { got = put_got line; sent = []; lines = slice_set lines n (put_line byte line); ahead = ahead } in
+        let same : done ≡ l = cc in
+        subst (λ (x : Lined). length x.lines ≡ length lines) same (length-set lines n (put_line byte line))
+lined-count time w lines ahead l there = absurd (cc)
+
+-- the machine was asked, or was answered
+stays-asked : (u : UnitName) (s : Seen) → StaysAs s (with_machine s (asked u s.machine))
+unfolding asked
+stays-asked u s = record { kinds = after-kinds (code_of u.kind) (Due u.unit) s.machine.units; slots = refl; own = refl; count = refl }
+
+keeps-replied : (u : UnitName) (stop : Option Stop) (answer : Result Got NoAnswer) (s : Seen) → KeepsShape s (replied u stop answer s)
+unfolding answered
+keeps-replied u stop (Ok g) s =
+    keeps-silent _ s _ (record { kinds = after-kinds (code_of u.kind) (Answered u.unit g) s.machine.units; slots = refl; own = refl; count = refl })
+keeps-replied u stop (Err why) s = keeps-silent _ s s (stays s)
+
+stays-hosted : (fault : Option Failure) (u : UnitName) (s : Seen) → StaysAs s (hosted fault u s)
+unfolding hosted asked
+stays-hosted fault u s = record { kinds = after-kinds (code_of u.kind) (Due u.unit) s.machine.units; slots = refl; own = refl; count = refl }
+
+stays-printing : (w : Want) (s t u : Seen) → StaysAs s t → StandsAt u (prints w t) → StaysAs s u
+stays-printing (want.Console byte) s t u is (inl same) = subst (λ (x : Seen). StaysAs s x) (sym same) is
+stays-printing (want.Console byte) s t u is (inr none) = absurd none
+stays-printing w s t u is h = absurd h
+
+keeps-own : (fault : Option Failure) (u : UnitName) (s : Seen) → KeepsShape s (own_service fault u s)
+unfolding own_service
+keeps-own fault u s =
+    keeps-behind s (prints (want_at u s.machine) (with_machine s (asked u s.machine))) _
+    (λ t h. stays-printing (want_at u s.machine) s (with_machine s (asked u s.machine)) t (stays-asked u s) h)
+    (keeps-from s (hosted fault u s) _ (stays-hosted fault u s) (keeps-replied u _ _ (hosted fault u s)))
+
+stays-lined : (u : UnitName) (l : Lined) (s : Seen) → lined_at u s ≡ Some l → StaysAs s (behind_line u l s)
+unfolding asked
+stays-lined u l s there = record {
+  kinds = after-kinds (code_of u.kind) (Due u.unit) s.machine.units;
+  slots = refl;
+  own = refl;
+  count = lined-count s.machine.time (want_at u s.machine) s.lines s.ahead l there;
+}
+
+keeps-line : (u : UnitName) (l : Lined) (s : Seen) → lined_at u s ≡ Some l → KeepsShape s (line_service u l s)
+unfolding line_service
+keeps-line u l s there =
+    keeps-behind s (sends l.sent) _ (λ t h. absurd (sends-nowhere l.sent t h))
+    (keeps-from s (behind_line u l s) _ (stays-lined u l s there) (keeps-replied u None (Ok l.got) (behind_line u l s)))
+
+keeps-service : (fault : Option Failure) (u : UnitName) (s : Seen) → KeepsShape s (service fault u (taken s))
+keeps-service fault u s =
+    keeps-from s (taken s) _ (record { kinds = refl; slots = refl; own = refl; count = refl })
+    (each-service (KeepsShape (taken s)) fault u (taken s) (keeps-own fault u (taken s)) (λ l there. keeps-line u l (taken s) there))
+
+-- ---- a turn, and a run
+
+keeps-still : (s : Seen) (t : Turned) → Leaves s.machine t.machine → KeepsShape s (still s t)
+keeps-still s t leaves = keeps-silent _ s _ (record { kinds = leaves.kinds; slots = leaves.slots; own = leaves.lines; count = refl })
+
+keeps-tested : (s : Seen) → KeepsShape s (breaks_tested s)
+unfolding breaks_tested
+keeps-tested s = keeps-silent _ s _ (record { kinds = refl; slots = refl; own = refl; count = refl })
+
+of-turns : OfTurns KeepsShape
+of-turns = record {
+  pieces = record {
+    services = record { none = λ s. keeps-silent None s s (stays s); both = keeps-then; one = keeps-service };
+    interrupted = λ s. keeps-still s _ (leaves-interrupt s.machine);
+    tested = keeps-tested;
+  };
+  fetched = λ s. keeps-still s _ (leaves-fetch s.machine);
+}
+
+of-runs : OfRuns KeepsShape
+of-runs = record { turn = of-turns; over = λ s stop limit. keeps-silent (Some stop) s s (stays s) }
+
+pub turn-shape : (note : Option UnitNote) (first : Bool) (s : Seen) → KeepsShape s (turn note first s)
+turn-shape note first s = walk-turn KeepsShape of-turns note first s
+
+pub run-shape : (note : Option RunNote) (step : Bool) (n : ℕ) (s : Seen) → KeepsShape s (run note step n s)
+run-shape note step n s = walk-run KeepsShape of-runs note step n s

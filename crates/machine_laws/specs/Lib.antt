@@ -1,0 +1,4 @@
+pub mod SameRun
+pub mod ServiceLaws
+pub mod ValidLaws
+pub mod WordLaws

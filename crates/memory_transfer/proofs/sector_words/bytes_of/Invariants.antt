@@ -1,0 +1,9 @@
+use Rattle.std.proofs.Common.{◌≡◌, ◌*◌, length, take}
+use Rattle.memory_transfer.specs.Words.{bytes_got}
+use Rattle.memory_transfer.proofs.sector_words.bytes_of.Given as goal
+
+abbrev pub invariant-loop-n : goal.invariant-loop-n
+invariant-loop-n l = record {
+  got : take (2 * l.n) l.bytes ≡ bytes_got l.n l.address l.memory;
+  long : length l.bytes ≡ 512;
+}

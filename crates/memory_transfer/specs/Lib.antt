@@ -1,0 +1,3 @@
+pub mod Words
+pub mod Tapes
+pub mod Operated

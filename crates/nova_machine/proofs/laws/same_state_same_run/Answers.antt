@@ -1,5 +1,0 @@
-use Rattle.nova_machine.proofs.SameRunLemmas.{same-state-same-run}
-use Rattle.nova_machine.proofs.laws.same_state_same_run.Goals as goal
-
-pub returns : goal.returns
-returns c = same-state-same-run

@@ -1,9 +1,0 @@
-use Rattle.std.proofs.Common.{◌≡◌, ◌*◌, length, take}
-use Rattle.nova_machine.specs.Sectors.{bytes_got}
-use Rattle.nova_machine.proofs.sector.bytes_of.Given as goal
-
-abbrev pub invariant-loop-n : goal.invariant-loop-n
-invariant-loop-n l = record {
-  got : take (2 * l.n) l.bytes ≡ bytes_got l.n l.address l.memory;
-  long : length l.bytes ≡ 512;
-}

@@ -1,5 +1,0 @@
-use Rattle.std.proofs.Common.{length}
-use Rattle.nova_top.proofs.standard.+are_initial.Given as goal
-
-abbrev pub decreases-are_initial : goal.decreases-are_initial
-decreases-are_initial g l = length l.units.now

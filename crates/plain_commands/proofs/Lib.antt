@@ -1,0 +1,11 @@
+pub mod UntoldLemmas
+pub mod ListKinds
+pub mod SizeLemmas
+pub mod ListLemmas
+pub mod OwnLemmas
+pub mod PrintedLemmas
+pub mod QueueLemmas
+pub mod QuotedLemmas
+pub mod ScriptLemmas
+pub mod ShowLemmas
+pub mod WatchLines

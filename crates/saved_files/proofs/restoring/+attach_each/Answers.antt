@@ -1,0 +1,114 @@
+use Rattle.std.proofs.Common.{Option, Some, None, Ok, Err, refl, sym, ap, subst, ◌∙◌, rules, List}
+use Rattle.std.proofs.lemmas.Result.{err_from_is_err_and}
+use Rattle.unit_trait.specs.declared.kind.UnitName.{UnitName}
+use Rattle.unit_files.specs.Attachments.{Attachment, attachments_of, file_place, is_disk}
+use Rattle.unit_files.specs.Buffer.{Buffer}
+use Rattle.unit_files.specs.Acts.{detached}
+use Rattle.state_text.specs.Parts.{file_in}
+use Rattle.saved_files.specs.Restoring.{files_in, unit_of, attachment_of}
+use Rattle.saved_files.specs.RestoringOne.{CanAttach, IsFree, IsClean}
+use Rattle.saved_files.proofs.Attaching.{set-back}
+use Rattle.saved_files.proofs.Together.{none-said, first-said, others-said, not-claimed, still-free, still-clean, all-of, head-of}
+use Rattle.saved_files.proofs.Together.{tail-of, apart-of, none-in}
+use Rattle.saved_files.proofs.GivingBackLemmas.{all-held}
+use Rattle.saved_files.proofs.RestoreCounts.{from-both, new-counts, new-counts-behind}
+use Rattle.saved_files.specs.RestoringOne.{OnlyItsCount}
+use Rattle.saved_files.proofs.restoring.+attach_each.Goals as goal
+
+pub returns-in-None-clause-told : goal.returns-in-None-clause-told
+returns-in-None-clause-told g t c = λ told.
+    none-said None c.args.force (files_in c.args.saved.now) (attachments_of c.args.attached.now.slots)
+    (g.F.Files.state c.args.files.now).files (ap files_in (none-in c.args.saved.now c.in-None.ensures.cases))
+
+pub returns-in_err-attach_one-in-Some-clause-told : goal.returns-in_err-attach_one-in-Some-clause-told
+returns-in_err-attach_one-in-Some-clause-told g t c = λ told.
+    let p = err_from_is_err_and c.from_residual.result c.from_residual.ensures.1 in
+    let all = all-of c.args.saved.now c.in-Some.first.now c.in-Some.others.now c.in-Some.ensures.cases.0 in
+    rw (p.1, p.2) (first-said c.args.force (file_in c.in-Some.first.now) (files_in c.in-Some.others.now)
+    (files_in c.args.saved.now) (attachments_of c.args.attached.now.slots) (g.F.Files.state c.args.files.now).files all
+    c.in_err-attach_one-in-Some.field-0.0 c.in_err-attach_one-in-Some.ensures.unit
+    (c.in_err-attach_one-in-Some.ensures.told told))
+
+pub attach_each-requires : goal.attach_each-requires
+attach_each-requires g t c κs within =
+    let all = all-of c.args.saved.now c.in-Some.first.now c.in-Some.others.now c.in-Some.ensures.cases.0 in
+    let f = file_in c.in-Some.first.now in
+    let fs = files_in c.in-Some.others.now in
+    let now = c.in_ok-attach_one-in-Some.ensures in
+    let slots = attachments_of c.args.attached.now.slots in
+    let apart = apart-of f fs (files_in c.args.saved.now) all c.requires.apart in
+    let cans = tail-of CanAttach f fs (files_in c.args.saved.now) all c.requires.can in
+    let free = still-free f fs slots (attachments_of c.attach_one.new.attached.slots) now.attached apart.0
+    (tail-of (IsFree slots) f fs (files_in c.args.saved.now) all c.requires.free) in
+    let clean = still-clean f fs c.args.attached.now.disk c.attach_one.new.attached.disk
+    (head-of CanAttach f fs (files_in c.args.saved.now) all c.requires.can) cans apart.0 now.other
+    (tail-of (IsClean c.args.attached.now.disk) f fs (files_in c.args.saved.now) all c.requires.clean) in
+    (search rules, (search rules, (cans, (apart.1, (free, (clean, now.«open»))))))
+
+pub returns-in-Ok-clause-told : goal.returns-in-Ok-clause-told
+returns-in-Ok-clause-told g t c = λ told.
+    let all = all-of c.args.saved.now c.in-Some.first.now c.in-Some.others.now c.in-Some.ensures.cases.0 in
+    let now = c.in_ok-attach_one-in-Some.ensures in
+    others-said c.args.force (file_in c.in-Some.first.now) (files_in c.in-Some.others.now) (files_in c.args.saved.now)
+    (attachments_of c.args.attached.now.slots) (g.F.Files.state c.args.files.now).files all (Ok tt)
+    (attachments_of c.attach_one.new.attached.slots) (g.F.Files.state c.attach_one.new.files).files refl
+    (now.told told) now.attached (now.files told) (c.in-Ok.ensures.told told)
+
+pub returns-in-Err-clause-told : goal.returns-in-Err-clause-told
+returns-in-Err-clause-told g t c = λ told.
+    let all = all-of c.args.saved.now c.in-Some.first.now c.in-Some.others.now c.in-Some.ensures.cases.0 in
+    let f = file_in c.in-Some.first.now in
+    let fs = files_in c.in-Some.others.now in
+    let now = c.in_ok-attach_one-in-Some.ensures in
+    let apart = apart-of f fs (files_in c.args.saved.now) all c.requires.apart in
+    others-said c.args.force f fs (files_in c.args.saved.now) (attachments_of c.args.attached.now.slots)
+    (g.F.Files.state c.args.files.now).files all (Err c.in-Err.fault) (attachments_of c.attach_one.new.attached.slots)
+    (g.F.Files.state c.attach_one.new.files).files (not-claimed f fs c.in-Err.fault apart.0 c.in-Err.ensures.these)
+    (now.told told) now.attached (now.files told) (c.in-Err.ensures.told told)
+
+pub give_back-requires-clause-clean : goal.give_back-requires-clause-clean
+give_back-requires-clause-clean g t c = λ disk.
+    let is = ap (λ (u : UnitName). is_disk u.kind) (sym c.unit_of.ensures) ∙ disk in
+    ap (λ (b : Buffer). b.written) c.in-Err.ensures.disk ∙ (c.in_ok-attach_one-in-Some.ensures.unwritten is).0
+
+pub returns-in-Err-clause-slots : goal.returns-in-Err-clause-slots
+returns-in-Err-clause-slots g t c =
+    let all = all-of c.args.saved.now c.in-Some.first.now c.in-Some.others.now c.in-Some.ensures.cases.0 in
+    let f = file_in c.in-Some.first.now in
+    let slots = attachments_of c.args.attached.now.slots in
+    let free = head-of (IsFree slots) f (files_in c.in-Some.others.now) (files_in c.args.saved.now) all c.requires.free in
+    c.give_back.ensures.attached
+    ∙ ap (λ (u : UnitName). detached u (attachments_of c.attach_each.new.attached.slots)) c.unit_of.ensures
+    ∙ ap (λ (l : List (Option Attachment)). detached (unit_of f) l)
+    (c.in-Err.ensures.slots ∙ c.in_ok-attach_one-in-Some.ensures.attached)
+    ∙ set-back slots (file_place (unit_of f)) (Some (attachment_of f)) free
+
+pub returns-in-Err-clause-counts : goal.returns-in-Err-clause-counts
+returns-in-Err-clause-counts g t c =
+    let state = g.F.Files.state in
+    let all = all-of c.args.saved.now c.in-Some.first.now c.in-Some.others.now c.in-Some.ensures.cases.0 in
+    let f = file_in c.in-Some.first.now in
+    let slots = c.args.attached.now.slots in
+    let back = c.attach_each.new.attached.slots in
+    let first = c.in_ok-attach_one-in-Some.ensures in
+    let next = c.in-Err.ensures in
+    let free = head-of (IsFree (attachments_of slots)) f (files_in c.in-Some.others.now) (files_in c.args.saved.now) all
+    c.requires.free in
+    new-counts-behind slots back (unit_of f) (state c.args.files.now) (state c.attach_each.new.files)
+    (state c.give_back.new.files) free
+    (from-both slots c.attach_one.new.attached.slots back (state c.args.files.now) (state c.attach_one.new.files)
+    (state c.attach_each.new.files) first.from next.from first.counts.ids next.counts.ids)
+    (new-counts (state c.args.files.now) (state c.attach_one.new.files) (state c.attach_each.new.files) first.counts
+    next.counts)
+    (subst (λ (u : UnitName). OnlyItsCount back u (state c.attach_each.new.files) (state c.give_back.new.files))
+    c.unit_of.ensures c.give_back.ensures.count)
+
+pub returns-in-Ok-clause-held : goal.returns-in-Ok-clause-held
+returns-in-Ok-clause-held g t c =
+    let all = all-of c.args.saved.now c.in-Some.first.now c.in-Some.others.now c.in-Some.ensures.cases.0 in
+    let f = file_in c.in-Some.first.now in
+    let fs = files_in c.in-Some.others.now in
+    let apart = apart-of f fs (files_in c.args.saved.now) all c.requires.apart in
+    all-held f fs (files_in c.args.saved.now) (attachments_of c.attach_one.new.attached.slots)
+    (attachments_of c.attach_each.new.attached.slots) all apart.0 c.in-Ok.ensures.attached
+    c.in_ok-attach_one-in-Some.ensures.there c.in-Ok.ensures.held

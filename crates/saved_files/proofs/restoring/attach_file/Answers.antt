@@ -1,0 +1,77 @@
+use Rattle.std.proofs.Common.{Some, None, ap, ◌∙◌, rules}
+use Rattle.unit_trait.specs.declared.kind.UnitName.{UnitName}
+use Rattle.unit_files.specs.Attachments.{attachments_of, is_disk}
+use Rattle.unit_files.specs.Acts.{NotThere, TooLong, CallFailed}
+use Rattle.unit_files.specs.Answers.{failure_in}
+use Rattle.state_text.specs.Parts.{file_in}
+use Rattle.saved_files.specs.Restoring.{is_only_read}
+use Rattle.saved_files.proofs.Attaching.{same-files, said-of, bytes-taken}
+use Rattle.saved_files.proofs.RestoreCounts.{refused-opened}
+use Rattle.saved_files.proofs.restoring.attach_file.Goals as goal
+
+pub returns-in-Ok-clause-bytes : goal.returns-in-Ok-clause-bytes
+returns-in-Ok-clause-bytes g c = λ t disk.
+    let same = c.in-Ok.ensures.files t
+    ∙ same-files None c.mode_of.result (is_only_read (file_in c.args.file.now)) c.unit_of-unit.result
+    c.as_str.result.now (attachments_of c.args.attached.now.slots) (g.F.Files.state c.args.files.now).files
+    c.mode_of.ensures in
+    bytes-taken c.attach.new.self.disk c.args.attached.now.disk (file_in c.args.file.now) c.in-Ok._length
+    c.unit_of-unit.result c.as_str.result.now (g.F.Files.state c.attach.new.files).files
+    (g.F.Files.state c.args.files.now).files c.unit_of-unit.ensures (search rules) same (c.in-Ok.ensures.disk t) disk
+
+pub returns-in-Ok-clause-files : goal.returns-in-Ok-clause-files
+returns-in-Ok-clause-files g c = λ t.
+    c.in-Ok.ensures.files t
+    ∙ same-files None c.mode_of.result (is_only_read (file_in c.args.file.now)) c.unit_of-unit.result
+    c.as_str.result.now (attachments_of c.args.attached.now.slots) (g.F.Files.state c.args.files.now).files
+    c.mode_of.ensures
+
+pub returns-in-Err-NoFile-clause-files : goal.returns-in-Err-NoFile-clause-files
+returns-in-Err-NoFile-clause-files g c = λ t.
+    (rw c.in-Err-NoFile.field-0-is at c.in-Err-NoFile.ensures.files) t
+    ∙ same-files None c.mode_of.result (is_only_read (file_in c.args.file.now)) c.unit_of-unit.result
+    c.as_str.result.now (attachments_of c.args.attached.now.slots) (g.F.Files.state c.args.files.now).files
+    c.mode_of.ensures
+
+pub returns-in-Err-TooLong-clause-files : goal.returns-in-Err-TooLong-clause-files
+returns-in-Err-TooLong-clause-files g c = λ t.
+    (rw c.in-Err-TooLong.field-0-is at c.in-Err-TooLong.ensures.files) t
+    ∙ same-files None c.mode_of.result (is_only_read (file_in c.args.file.now)) c.unit_of-unit.result
+    c.as_str.result.now (attachments_of c.args.attached.now.slots) (g.F.Files.state c.args.files.now).files
+    c.mode_of.ensures
+
+pub returns-in-Err-Failed-clause-files : goal.returns-in-Err-Failed-clause-files
+returns-in-Err-Failed-clause-files g c = λ t.
+    (rw c.in-Err-Failed.field-0-is at c.in-Err-Failed.ensures.files) t
+    ∙ same-files (Some (failure_in c.in-Err-Failed.fault)) c.mode_of.result (is_only_read (file_in c.args.file.now)) c.unit_of-unit.result
+    c.as_str.result.now (attachments_of c.args.attached.now.slots) (g.F.Files.state c.args.files.now).files
+    c.mode_of.ensures
+
+pub returns-in-Err-NoFile-clause-told : goal.returns-in-Err-NoFile-clause-told
+returns-in-Err-NoFile-clause-told g c = λ t force.
+    said-of NotThere None force (file_in c.args.file.now) c.unit_of-unit.result c.mode_of.result c.as_str.result.now
+    (attachments_of c.args.attached.now.slots) (g.F.Files.state c.args.files.now).files c.unit_of-unit.ensures
+    c.mode_of.ensures (search rules) ((rw c.in-Err-NoFile.field-0-is at c.in-Err-NoFile.ensures.said) t)
+
+pub returns-in-Err-TooLong-clause-told : goal.returns-in-Err-TooLong-clause-told
+returns-in-Err-TooLong-clause-told g c = λ t force.
+    said-of TooLong None force (file_in c.args.file.now) c.unit_of-unit.result c.mode_of.result c.as_str.result.now
+    (attachments_of c.args.attached.now.slots) (g.F.Files.state c.args.files.now).files c.unit_of-unit.ensures
+    c.mode_of.ensures (search rules) ((rw c.in-Err-TooLong.field-0-is at c.in-Err-TooLong.ensures.said) t)
+
+pub returns-in-Err-Failed-clause-told : goal.returns-in-Err-Failed-clause-told
+returns-in-Err-Failed-clause-told g c = λ t force.
+    said-of (CallFailed (failure_in c.in-Err-Failed.fault)) (Some (failure_in c.in-Err-Failed.fault)) force (file_in c.args.file.now) c.unit_of-unit.result c.mode_of.result c.as_str.result.now
+    (attachments_of c.args.attached.now.slots) (g.F.Files.state c.args.files.now).files c.unit_of-unit.ensures
+    c.mode_of.ensures (search rules) ((rw c.in-Err-Failed.field-0-is at c.in-Err-Failed.ensures.said) t)
+
+pub returns-in-Ok-clause-unwritten : goal.returns-in-Ok-clause-unwritten
+returns-in-Ok-clause-unwritten g c = λ disk.
+    let is = ap (λ (u : UnitName). is_disk u.kind) c.unit_of-unit.ensures ∙ disk in
+    (c.in-Ok.ensures.unwritten is, c.in-Ok.ensures.unmarked is)
+
+pub returns-in-Err-TooLong-clause-cause : goal.returns-in-Err-TooLong-clause-cause
+returns-in-Err-TooLong-clause-cause g c =
+    let cause = rw c.in-Err-TooLong.field-0-is at c.in-Err-TooLong.ensures.cause in
+    let state = g.F.Files.state in
+    (refused-opened cause.0.0 0 (state c.args.files.now) (state c.attach.new.files) cause.0.1, cause.1)

@@ -1,5 +1,0 @@
-use Rattle.scp_script.proofs.LawLemmas.{ended-scripts-do-not-matter}
-use Rattle.scp_script.proofs.laws.ended_scripts_do_not_matter.Goals as goal
-
-pub returns : goal.returns
-returns c = ended-scripts-do-not-matter

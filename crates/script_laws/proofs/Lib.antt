@@ -1,0 +1,5 @@
+pub mod ValidTexts
+pub mod ValidSessions
+pub mod ResumptionLemmas
+pub mod LawLemmas
+pub mod CoreLemmas

@@ -1,0 +1,4 @@
+pub mod Valid
+pub mod Core
+pub mod Laws
+pub mod Resumption

@@ -1,5 +1,0 @@
-use Rattle.state_file.proofs.PutBackLemmas.{saving-puts-back}
-use Rattle.state_file.proofs.laws.saving_puts_back.Goals as goal
-
-pub returns : goal.returns
-returns c = saving-puts-back

@@ -1,0 +1,9 @@
+pub mod PutBackLemmas
+pub mod SavedLemmas
+pub mod SavedWatchLemmas
+pub mod SavedFileLemmas
+pub mod SavedValidLemmas
+pub mod PutBackValidLemmas
+pub mod PutBackWatchLemmas
+pub mod TextBytes
+pub mod PutBackRange

@@ -1,0 +1,77 @@
+-- A session is in range once a valid state was put back.
+use Rattle.std.proofs.Common.{ℕ, zero, suc, ◌≤◌, ◌<◌, ◌^◌, List, [], ◌∷◌, Option, None, IfSome, refl, sym, subst, arith}
+use Rattle.std.specs.List.{AllByRecursion}
+use Rattle.std.proofs.lemmas.Bool.{leb-true}
+use Rattle.host_lines.specs.Traffic.{Peer}
+use Rattle.telnet_lines.specs.Line.{LineOf}
+use Rattle.unit_files.specs.Attachments.{Attachment, no_attachments, attachment_at}
+use Rattle.unit_files.specs.Buffer.{disk_unit}
+use Rattle.expect_actions.specs.KeysFile.{most_keys}
+use Rattle.nova_machine.specs.Run.{last_time}
+use Rattle.nova_machine.specs.Seen.{Seen}
+use Rattle.nova_machine.specs.Valid.{IsPort, ValidLine, Valid as ValidSeen, CopyIsFile, DiskIsItsFile}
+use Rattle.state_text.specs.Parts.{State}
+use Rattle.state_text.specs.Valid.{Valid}
+use Rattle.saved_files.specs.Restoring.{with_all, copy_of}
+use Rattle.state_file.specs.PutBack.{machine_from, port_from, lines_from, put_back}
+use Rattle.state_file.specs.SavedValid.{AreStandard}
+use Rattle.state_laws.specs.PutBackValid.{PutBackIsValid}
+use Rattle.state_file.proofs.PutBackMachineLemmas.{units-standard}
+use Rattle.state_laws.proofs.PutBackRange.{copy-is, as-many-places, slots-back, HasName, names-put, machine-in-range}
+use Rattle.nova_machine.proofs.Each.{every-replicate}
+use Rattle.state_text.specs.Reading.{place_of}
+use Rattle.state_laws.proofs.PutBackWatchLemmas.{watch-in-range}
+
+port-in-range : (port : ℕ) → port < 2 ^ 16 → IfSome (port_from port) IsPort
+port-in-range zero low = tt
+port-in-range (suc port) low = (omega arith, low)
+
+lines-in-range : (port : ℕ) (lines : List (LineOf Peer)) → port < 2 ^ 16 → AllByRecursion ValidLine lines
+    → AllByRecursion ValidLine (lines_from port lines)
+lines-in-range port [] low are = tt
+lines-in-range port (line ∷ lines) low are = (
+  record {
+    port = port-in-range port low;
+    nothing = λ none. refl;
+    keys = tt;
+    output = tt;
+    few_keys = omega arith;
+    few_bytes = omega arith;
+  },
+  are.1,
+)
+
+valid : (v : State) (present : Seen) → Valid v → ValidSeen present → ValidSeen (put_back v present)
+unfolding machine_from
+valid v present is in_range = record {
+  machine = machine-in-range v.machine (with_all no_attachments v.files) present.files is.machine
+      (as-many-places no_attachments v.files)
+      (names-put no_attachments (place_of 0 0) v.files (every-replicate HasName 12 None tt) is.files.each) in_range.files;
+  watch = watch-in-range v.watch is.watch;
+  taken = leb-true v.machine.cpu.keys_taken most_keys is.machine.cpu.keys_taken;
+  known = in_range.known;
+  keys = in_range.keys;
+  files = in_range.files;
+  lines = lines-in-range v.port present.lines is.port in_range.lines;
+  ahead = in_range.ahead;
+}
+
+time : (v : State) (present : Seen) → Valid v → (put_back v present).machine.time ≤ last_time
+unfolding machine_from
+time v present is = leb-true v.machine.cpu.time last_time is.machine.cpu.time
+
+units : (v : State) (present : Seen) → Valid v → AreStandard (put_back v present).machine.units
+unfolding machine_from
+units v present is = units-standard v.machine is.machine
+
+disk : (v : State) (present : Seen) → DiskIsItsFile (put_back v present)
+unfolding machine_from
+disk v present =
+    let attached = with_all no_attachments v.files in
+    subst
+    (λ (l : List (Option Attachment)). CopyIsFile (attachment_at l disk_unit)
+    (copy_of (attachment_at attached disk_unit) present.files) present.files)
+    (sym (slots-back attached)) (copy-is (attachment_at attached disk_unit) present.files)
+
+pub put-back-is-valid : PutBackIsValid
+put-back-is-valid = record { valid = valid; time = time; units = units; disk = disk }

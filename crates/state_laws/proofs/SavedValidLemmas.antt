@@ -1,0 +1,47 @@
+-- What is saved of a session of a standard machine is valid, and puts it back once it is read.
+use Rattle.std.proofs.Common.{◌≡◌, ℕ, ◌<◌, ◌^◌, List, [], ◌∷◌, Option, Some, None, sym, subst, arith}
+use Rattle.std.specs.Prelude.{IfSome, IfOk, Result}
+use Rattle.std.specs.List.{AllByRecursion}
+use Rattle.host_lines.specs.Traffic.{Peer}
+use Rattle.telnet_lines.specs.Line.{LineOf}
+use Rattle.nova_machine.specs.Seen.{Seen, attached_in}
+use Rattle.state_text.specs.declared.fault.StateFault.{StateFault}
+use Rattle.state_text.specs.Parts.{State}
+use Rattle.state_text.specs.Valid.{Valid}
+use Rattle.state_file.specs.Session.{port_number, saved_port, saved}
+use Rattle.state_file.specs.PutBack.{put_back}
+use Rattle.state_file.specs.SavedValid.{HasPort16, IsStandard}
+use Rattle.state_laws.specs.Laws.{SavedIsValid}
+use Rattle.state_text.proofs.FitLaws.{texts-are-read}
+use Rattle.state_laws.proofs.PutBackLemmas.{saving-puts-back}
+use Rattle.state_laws.proofs.SavedLemmas.{machine-valid}
+use Rattle.state_laws.proofs.SavedFileLemmas.{files-valid}
+use Rattle.state_laws.proofs.SavedWatchLemmas.{watch-valid}
+
+number-low : (port : Option ℕ) → IfSome port (λ (p : ℕ). p < 2 ^ 16) → port_number port < 2 ^ 16
+number-low None low = omega arith
+number-low (Some port) low = low
+
+port-low : (lines : List (LineOf Peer)) → AllByRecursion HasPort16 lines → saved_port lines < 2 ^ 16
+unfolding saved_port
+port-low [] low = omega arith
+port-low (line ∷ lines) low = number-low line.port low.0
+
+saved-valid : (s : Seen) → IsStandard s → Valid (saved s)
+saved-valid s is = record {
+  machine = machine-valid s.machine is.valid.machine is.time is.valid.taken is.units;
+  files = files-valid s.files (attached_in s.machine) is.files;
+  port = port-low s.lines is.ports;
+  watch = watch-valid s.watch is.valid.watch is.watch;
+}
+
+pub saved-is-valid : SavedIsValid
+saved-is-valid = record {
+  valid = saved-valid;
+  fits = λ s is. texts-are-read.fits (saved s) (saved-valid s is);
+  read = λ s is. texts-are-read.read (saved s) (saved-valid s is);
+  restored = λ s present is can files lines.
+      subst (λ (r : Result State StateFault). IfOk r
+      (λ v. put_back v present ≡ record s { keys = present.keys; ahead = present.ahead }))
+      (sym (texts-are-read.read (saved s) (saved-valid s is))) (saving-puts-back.back s present can files lines);
+}

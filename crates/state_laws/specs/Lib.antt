@@ -1,0 +1,2 @@
+pub mod PutBackValid
+pub mod Laws

@@ -1,0 +1,27 @@
+use Rattle.std.proofs.Common.{◌-◌, ℕ, List, Result, drop, refl, sym, ap, subst, ◌∙◌, arith}
+use Rattle.std.specs.Prelude.{map}
+use Rattle.state_text.specs.declared.saved.SavedSend.{SavedSend}
+use Rattle.state_text.specs.declared.fault.StateFault.{StateFault}
+use Rattle.state_text.specs.declared.state_reader.Part.{Part}
+use Rattle.state_text.specs.declared.state_reader.Part.TheVariants.{Tail, SendCount}
+use Rattle.state_text.specs.Parts.{break_in, expect_in, state_in}
+use Rattle.state_text.specs.Readers.{At, at_of, followed}
+use Rattle.state_text.specs.Held.{at_in}
+use Rattle.state_text.specs.Pieces.{longer, rest_in, behind_watch, behind_tail, behind_sends}
+use Rattle.state_text.specs.Steps.{Stops}
+use Rattle.state_text.proofs.WatchLaws.{tail_is}
+use Rattle.state_text.proofs.PieceLaws.{moved, stops, stops_then, goes_on, opened_sends}
+use Rattle.state_text.proofs.state_reader.StateReader.read_tail.Goals as goal
+
+pub returns-in-Ok : goal.returns-in-Ok
+returns-in-Ok c =
+    let r = c.args.self.now in
+    goes_on r _ Tail SendCount c.in-Ok.place c.requires refl refl refl (omega arith) c.in-Ok.ensures.found.there c.pass_to.ensures refl
+    (λ tail. ap (λ (z : Result (List ℕ × At) StateFault). followed (followed z (behind_tail (map break_in r.saved.breaks.items) (map expect_in r.saved.expects.items))) (behind_watch (state_in r.saved).machine (state_in r.saved).files (state_in r.saved).port)) (moved tail_is r.pending c.in-Ok.tail.items c.in-Ok.place tail c.in-Ok.ensures.bytes c.in-Ok.ensures.found)
+    ∙ ap (λ (z : Result (List SavedSend × At) StateFault). followed (followed z (behind_sends (map break_in r.saved.breaks.items) (map expect_in r.saved.expects.items) c.in-Ok.tail.items)) (behind_watch (state_in r.saved).machine (state_in r.saved).files (state_in r.saved).port)) (opened_sends (longer (at_of c.in-Ok.place (drop (c.in-Ok.place - r.pending.place) r.pending.rest)) tail)))
+
+pub stopped-requires-clause-stops : goal.stopped-requires-clause-stops
+stopped-requires-clause-stops c =
+    let r = c.args.self.now in
+    subst (λ (p : Part). Stops c.in-Err.fault (rest_in p r) (at_in r.pending)) (sym c.requires)
+    (stops_then _ (behind_watch (state_in r.saved).machine (state_in r.saved).files (state_in r.saved).port) c.in-Err.fault (at_in r.pending) (stops_then _ (behind_tail (map break_in r.saved.breaks.items) (map expect_in r.saved.expects.items)) c.in-Err.fault (at_in r.pending) (stops tail_is c.in-Err.fault (at_in r.pending) c.in-Err.ensures.bytes c.in-Err.ensures.found)))
