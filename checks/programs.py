@@ -1,5 +1,5 @@
-"""The two programs that bench/speed and bench/agree run: ours, and the `dgnova`
-of SIMH (Debian package `simh`, version 3.8-1)."""
+"""The two programs that checks/agree, loader and tape and bench/speed run: ours, and
+the `dgnova` of SIMH (Debian package `simh`, version 3.8-1)."""
 
 import glob
 import os

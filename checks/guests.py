@@ -1,4 +1,4 @@
-"""Short guest programs that bench/agree runs in both programs.
+"""Short guest programs that checks/agree runs in both programs.
 
 Each begins at 100 and ends with HALT. Its instructions are symbolic text, which
 both programs read, and its data words are numbers. `registers` are deposited

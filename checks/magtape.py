@@ -1,4 +1,4 @@
-"""Magnetic tape in our program and in SIMH's dgnova: guest programs and images for bench/tape.
+"""Magnetic tape in our program and in SIMH's dgnova: guest programs and images for checks/tape.
 
 Both controllers have code 22, take the command and the drive with DOA, the
 address with DOB and minus the count of words with DOC, and read and write images
