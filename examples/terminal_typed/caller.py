@@ -74,6 +74,7 @@ def main():
     with second:
         hear(second, OPENING + b"again")
         second.sendall(b"\x04")
+        hear(second, b"\x04")
         hear_the_end(second)
 
 
