@@ -7,13 +7,14 @@ use Rattle.std.proofs.lemmas.Bool.{and_parts, leb-true}
 use Rattle.std.proofs.lemmas.List.Concat.{flat_map-cons}
 use Rattle.unit_trait.specs.declared.kind.Kind.{Kind}
 use Rattle.unit_trait.specs.declared.kind.Kind.TheVariants.{Dsk, Mta, Lpt, Ptr, Ptp, Clk, Tti, Tto, Tti1, Tto1, Qty}
-use Rattle.state_text.specs.declared.saved.SavedCpu.{SavedCpu}
-use Rattle.state_text.specs.declared.saved.SavedEvent.{SavedEvent}
-use Rattle.state_text.specs.declared.saved.SavedSend.{SavedSend}
-use Rattle.state_text.specs.Parts.{UnitPart, FilePart, BreakPart, ExpectPart, MachinePart, State}
-use Rattle.state_text.specs.Ranges.{is_flag, is_size, is_address, is_time, is_key_count, kind_at, is_position, can_wait, is_free, FilePlace, is_next_unit, only_writes, is_read_only_of, longest_file_of, is_file_length, last_send}
-use Rattle.state_text.specs.Valid.{AreBytes, Follow, IsCpu, CanHold, IsUnit, IsEvent, IsFile, IsBreak, IsExpect, IsSend, Valid, Fits}
-use Rattle.state_text.specs.Reading.{next_number, with_event, place_of, behind_file, behind_break, behind_send, reading}
+use Rattle.saved_session.specs.declared.saved.SavedCpu.{SavedCpu}
+use Rattle.saved_session.specs.declared.saved.SavedEvent.{SavedEvent}
+use Rattle.saved_session.specs.declared.saved.SavedSend.{SavedSend}
+use Rattle.saved_session.specs.Parts.{UnitPart, FilePart, BreakPart, ExpectPart, MachinePart, State}
+use Rattle.saved_session.specs.Ranges.{is_flag, is_size, is_address, is_time, is_key_count, kind_at, is_position, can_wait, is_free, FilePlace, is_next_unit, only_writes, is_read_only_of, longest_file_of, is_file_length, last_send}
+use Rattle.saved_session.specs.Valid.{AreBytes, Follow, IsCpu, CanHold, IsUnit, IsEvent, IsFile, IsBreak, IsExpect, IsSend, Valid, Fits}
+use Rattle.state_text.specs.Reading.{reading}
+use Rattle.saved_session.specs.Order.{next_number, with_event, place_of, behind_file, behind_break, behind_send}
 use Rattle.state_text.specs.Laws.{CpuHasWidths, UnitHasWidths, EventHasWidths, FileHasWidths, BreakHasWidths, ExpectHasWidths, SendHasWidths, HasWidths}
 use Rattle.state_text.specs.Text.{number_text, word_text, register_text, unit_text, event_text, machine_text, file_text, break_text, expect_text, send_text, watch_text, head, body, text}
 use Rattle.state_text.proofs.MachineLaws.{small_unit}

@@ -21,15 +21,15 @@ use Rattle.whole_files.specs.Writing.{write_act}
 use Rattle.nova_machine.specs.Seen.{attached_in}
 use Rattle.state_text.specs.declared.fault.StateFault.{StateFault}
 use Rattle.saved_files.specs.declared.saving.UnitPlace.{UnitPlace}
-use Rattle.state_file.specs.Listening.{wants_port}
-use Rattle.state_text.specs.Parts.{State}
-use Rattle.state_file.specs.PutBack.{machine_from, lines_from, put_back}
-use Rattle.state_text.specs.SavedWatch.{watch_from}
+use Rattle.state_transfer.specs.Listening.{wants_port}
+use Rattle.saved_session.specs.Parts.{State}
+use Rattle.state_transfer.specs.PutBack.{machine_from, lines_from, put_back}
+use Rattle.saved_session.specs.SavedWatch.{watch_from}
 use Rattle.state_text.specs.Reading.{reading}
 use Rattle.saved_files.specs.Restoring.{FileRefusal, first_refused}
 use Rattle.saved_files.specs.Saving.{unit_at, file_places, undigested, failing_first, first_undigested, unless_unflushed, files_flushed, first_unsaved}
-use Rattle.state_file.specs.Session.{saved_machine, saved_port, saved}
-use Rattle.state_text.specs.SavedWatch.{saved_watch}
+use Rattle.state_transfer.specs.Session.{saved_machine, saved_port, saved}
+use Rattle.saved_session.specs.SavedWatch.{saved_watch}
 use Rattle.state_text.specs.Text.{text}
 use Rattle.state_laws.proofs.SavedValidLemmas.{saved-is-valid}
 use Rattle.state_laws.proofs.PutBackLemmas.{files-back, saving-puts-back}

@@ -35,13 +35,13 @@ use Rattle.machine_laws.proofs.StayingValid.{runs-stay-valid}
 use Rattle.nova_machine.specs.declared.machine.Stop.{Stop}
 use Rattle.machine_laws.proofs.ValidBytes.{AreFiles, files-found}
 use Rattle.state_text.specs.declared.fault.StateFault.{StateFault}
-use Rattle.state_file.specs.Listening.{wants_port}
-use Rattle.state_text.specs.Parts.{State}
-use Rattle.state_file.specs.PutBack.{machine_from, lines_from, put_back}
+use Rattle.state_transfer.specs.Listening.{wants_port}
+use Rattle.saved_session.specs.Parts.{State}
+use Rattle.state_transfer.specs.PutBack.{machine_from, lines_from, put_back}
 use Rattle.state_text.specs.Reading.{reading}
 use Rattle.saved_files.specs.Restoring.{FileRefusal, with_all, at_unit}
 use Rattle.saved_files.specs.Saving.{first_unsaved, files_flushed, copy_flushed}
-use Rattle.state_file.specs.Session.{saved}
+use Rattle.state_transfer.specs.Session.{saved}
 use Rattle.state_text.specs.Text.{text}
 use Rattle.state_text.proofs.FitLaws.{texts-are-read}
 use Rattle.state_laws.proofs.PutBackValidLemmas.{put-back-is-valid}

@@ -8,13 +8,13 @@ use Rattle.expect_actions.specs.Watch.{forgotten}
 use Rattle.file_commands.specs.Notes.{CommandNote}
 use Rattle.nova_machine.specs.Seen.{attached_in}
 use Rattle.nova_machine.specs.Valid.{DiskIsItsFile}
-use Rattle.state_text.specs.Parts.{State}
-use Rattle.state_file.specs.PutBack.{CanBeSaved}
-use Rattle.state_file.specs.Session.{saved_port, saved}
+use Rattle.saved_session.specs.Parts.{State}
+use Rattle.state_transfer.specs.PutBack.{CanBeSaved}
+use Rattle.state_transfer.specs.Session.{saved_port, saved}
 use Rattle.state_text.specs.Text.{text}
-use Rattle.state_text.specs.Valid.{Fits}
+use Rattle.saved_session.specs.Valid.{Fits}
 use Rattle.state_text.specs.Laws.{HasWidths}
-use Rattle.state_file.specs.SavedValid.{IsStandard}
+use Rattle.state_transfer.specs.SavedValid.{IsStandard}
 use Rattle.scp_parser.specs.Command.{Save, Restore}
 use Rattle.command_session.specs.declared.next.Next.TheVariants.{Go}
 use Rattle.command_session.specs.Live.{Live, standing}

@@ -11,7 +11,7 @@ use Rattle.file_commands.specs.Notes.{CommandNote}
 use Rattle.unit_files.specs.Attachments.{Attachment, attachment_at}
 use Rattle.unit_files.specs.Acts.{written_back}
 use Rattle.unit_files.specs.Buffer.{Buffer, disk_unit}
-use Rattle.state_file.specs.SavedValid.{AreStandard}
+use Rattle.state_transfer.specs.SavedValid.{AreStandard}
 use Rattle.scp_parser.specs.Command.{Request, Attach, Detach, IsKept}
 use Rattle.scp_parser.specs.Laws.{IsOfBytes}
 use Rattle.command_session.specs.declared.next.Next.TheVariants.{Go, Do}

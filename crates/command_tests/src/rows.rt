@@ -1,7 +1,7 @@
 // Rows of tables: a command line, the room of the console that it is done on and its answer, and what it prints, with bars
 // between them. A $ stands for a newline.
 ghost use Rattle.unit_files.specs.Open.{AllOpen};
-ghost use Rattle.state_file.specs.SavedValid.{AreStandard};
+ghost use Rattle.state_transfer.specs.SavedValid.{AreStandard};
 
 use crate::answers::is_wanted;
 use crate::checked::check;

@@ -4,7 +4,7 @@ ghost use Rattle.file_traits.specs.State.{Opened};
 ghost use Rattle.unit_files.specs.Open.{AllOpen};
 ghost use Rattle.unit_trait.specs.Kinds.{all_kinds};
 ghost use Rattle.unit_trait.specs.Row.{initial_unit};
-ghost use Rattle.state_file.specs.SavedValid.{AreStandard};
+ghost use Rattle.state_transfer.specs.SavedValid.{AreStandard};
 
 use crate::checked::check;
 use crate::rows::all;

@@ -3,7 +3,7 @@ ghost use Rattle.std.specs.Prelude.{◌≡◌, map, take};
 ghost use Rattle.unit_files.specs.Open.{AllOpen};
 ghost use Rattle.unit_trait.specs.Kinds.{all_kinds};
 ghost use Rattle.unit_trait.specs.Row.{initial_unit};
-ghost use Rattle.state_file.specs.SavedValid.{AreStandard};
+ghost use Rattle.state_transfer.specs.SavedValid.{AreStandard};
 
 use crate::answers::first_unit;
 use crate::checked::check;

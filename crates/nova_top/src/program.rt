@@ -15,7 +15,7 @@ ghost use Rattle.host_lines.specs.Told.{IsFirst, record_in};
 ghost use Rattle.telnet_lines.specs.Line.{unconnected};
 ghost use Rattle.nova_machine.specs.Seen.{seen, beside};
 ghost use Rattle.nova_machine.specs.Comes.{output as heard_output};
-ghost use Rattle.state_file.specs.SavedValid.{AreStandard};
+ghost use Rattle.state_transfer.specs.SavedValid.{AreStandard};
 ghost use Rattle.command_session.specs.Live.{beyond};
 ghost use Rattle.scp_script.specs.Loop.{FinishCause, AreKept};
 ghost use Rattle.scp_script.specs.Perform.{beginning, Performed};

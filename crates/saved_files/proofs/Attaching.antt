@@ -19,8 +19,8 @@ use Rattle.unit_files.specs.Acts.{is_read_only}
 use Rattle.unit_files.specs.Buffer.{Buffer, no_marks}
 use Rattle.unit_files.specs.Acts.{buffer_by, said_unless, opened_said, read_whole, refused_first}
 use Rattle.unit_files.specs.Digests.{digest_measured}
-use Rattle.state_text.specs.Parts.{FilePart}
-use Rattle.state_text.specs.Ranges.{kind_at}
+use Rattle.saved_session.specs.Parts.{FilePart}
+use Rattle.saved_session.specs.Ranges.{kind_at}
 use Rattle.saved_files.specs.Restoring.{unit_of, is_only_read, mode_of, CallFails, behind_attaching, compared}
 use Rattle.saved_files.specs.Restoring.{refusal_of}
 use Rattle.saved_files.specs.RestoringOne.{CompareCalls, Compares, SaysOne, failure_of}

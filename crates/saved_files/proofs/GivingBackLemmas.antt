@@ -6,8 +6,8 @@ use Rattle.unit_files.specs.Attachments.{Attachment, attachments_of, attachment_
 use Rattle.unit_files.specs.Acts.{detached}
 use Rattle.unit_files.specs.Buffer.{AttachedFiles, Buffer, no_buffer, nothing_attached}
 use Rattle.saved_files.specs.GivingBack.{IsHeldIn, IsNoDisk, without_all, copy_behind}
-use Rattle.state_text.specs.Parts.{FilePart}
-use Rattle.state_text.specs.Ranges.{kind_at}
+use Rattle.saved_session.specs.Parts.{FilePart}
+use Rattle.saved_session.specs.Ranges.{kind_at}
 use Rattle.saved_files.specs.Restoring.{unit_of, attachment_of, with_file, with_all}
 use Rattle.saved_files.specs.RestoringOne.{AreOfTwo, AreApart, IsAsRead, IsFree}
 use Rattle.saved_files.proofs.Attaching.{set-back}

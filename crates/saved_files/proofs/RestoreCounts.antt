@@ -16,7 +16,7 @@ use Rattle.unit_files.specs.Causes.{OnlyNewCounts, AreFrom, OnlyKept, IsNewId, I
 use Rattle.saved_files.specs.declared.file_faults.RestoreFault.{RestoreFault}
 use Rattle.saved_files.specs.declared.file_faults.RestoreFault.TheVariants as fault
 use Rattle.saved_files.specs.GivingBack.{IsNotItsFile, OnlyTheirCounts}
-use Rattle.state_text.specs.Parts.{FilePart}
+use Rattle.saved_session.specs.Parts.{FilePart}
 use Rattle.saved_files.specs.Restoring.{unit_of}
 use Rattle.saved_files.specs.RestoringOne.{IsFree, OnlyItsCount, CompareCalls, CompareCause, IsReadingFault}
 use Rattle.saved_files.specs.RestoreCauses.{RestoreCause, SessionCause, IsRestoreFault, IsNewFileFault, OpeningsStand}

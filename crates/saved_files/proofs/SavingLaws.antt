@@ -25,8 +25,8 @@ use Rattle.unit_files.specs.Digests.{digest_flushed}
 use Rattle.unit_files.specs.Digests.{IsReadingCall}
 use Rattle.unit_files.proofs.Digests.{same-files}
 use Rattle.saved_files.specs.declared.saving.UnitPlace.{UnitPlace}
-use Rattle.state_text.specs.Parts.{FilePart}
-use Rattle.state_text.specs.Ranges.{kind_at}
+use Rattle.saved_session.specs.Parts.{FilePart}
+use Rattle.saved_session.specs.Ranges.{kind_at}
 use Rattle.saved_files.specs.Restoring.{unit_of, attachment_of, at_unit}
 use Rattle.saved_files.specs.RestoringOne.{AreOfTwo, AreApart, IsAsRead}
 use Rattle.saved_files.specs.Saving.{unit_at, file_places, flag_of, saved_at, saved_files, undigested, failing_first}

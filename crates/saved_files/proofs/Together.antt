@@ -21,11 +21,11 @@ use Rattle.unit_files.specs.Attachments.{file_place}
 use Rattle.unit_files.specs.Attachments.{is_disk, takes_attachment}
 use Rattle.unit_files.specs.Acts.{Failure}
 use Rattle.unit_files.specs.Buffer.{Buffer, no_buffer, disk_unit}
-use Rattle.state_text.specs.declared.saved.SavedFile.{SavedFile}
+use Rattle.saved_session.specs.declared.saved.SavedFile.{SavedFile}
 use Rattle.saved_files.specs.declared.file_faults.RestoreFault.{RestoreFault}
 use Rattle.saved_files.specs.declared.file_faults.RestoreFault.TheVariants as fault
-use Rattle.state_text.specs.Parts.{FilePart, file_in}
-use Rattle.state_text.specs.Ranges.{kind_at}
+use Rattle.saved_session.specs.Parts.{FilePart, file_in}
+use Rattle.saved_session.specs.Ranges.{kind_at}
 use Rattle.saved_files.specs.Restoring.{files_in, unit_of, FileRefusal, IsMissing, IsTooLong, HasChanged, CallFails}
 use Rattle.saved_files.specs.Restoring.{refusal_of}
 use Rattle.saved_files.specs.Restoring.{attachment_of, with_file, at_unit, first_of, first_refused, claim_in, Says}

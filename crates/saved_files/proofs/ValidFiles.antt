@@ -12,11 +12,11 @@ use Rattle.unit_trait.specs.Kinds.{takes_file, units_of}
 use Rattle.unit_trait.proofs.EveryKind.{every-kind}
 use Rattle.unit_files.specs.Attachments.{takes_files, takes_attachment, file_place}
 use Rattle.unit_files.specs.Attachments.{only_writes as writes_only}
-use Rattle.state_text.specs.Parts.{FilePart}
-use Rattle.state_text.specs.Ranges.{kind_at, FilePlace, only_writes, is_flag, is_name_length}
-use Rattle.state_text.specs.Reading.{behind_file}
+use Rattle.saved_session.specs.Parts.{FilePart}
+use Rattle.saved_session.specs.Ranges.{kind_at, FilePlace, only_writes, is_flag, is_name_length}
+use Rattle.saved_session.specs.Order.{behind_file}
 use Rattle.saved_files.specs.RestoringOne.{CanAttach, AreOfTwo, AreApart}
-use Rattle.state_text.specs.Valid.{Follow, IsFile}
+use Rattle.saved_session.specs.Valid.{Follow, IsFile}
 
 -- ---- each can be attached
 

@@ -6,8 +6,8 @@ use Rattle.file_traits.specs.State.{FileState}
 use Rattle.unit_files.specs.Attachments.{Attachment, Held, held_at, attachment_at, is_disk}
 use Rattle.unit_files.specs.Acts.{detached}
 use Rattle.unit_files.specs.Buffer.{Buffer, no_buffer}
-use Rattle.state_text.specs.Parts.{FilePart}
-use Rattle.state_text.specs.Ranges.{kind_at}
+use Rattle.saved_session.specs.Parts.{FilePart}
+use Rattle.saved_session.specs.Ranges.{kind_at}
 use Rattle.saved_files.specs.Restoring.{unit_of}
 
 -- the unit of a file has one

@@ -15,11 +15,11 @@ use Rattle.unit_files.specs.Acts.{Failure, AttachSaid, Attached, UnitHasFile, On
 use Rattle.unit_files.specs.Acts.{attach_said}
 use Rattle.unit_files.specs.Answers.{failure_in}
 use Rattle.unit_files.specs.Digests.{DigestSaid, NothingToDigest, NotDigested, Digested, digest_measured}
-use Rattle.state_text.specs.declared.saved.SavedFile.{SavedFile}
+use Rattle.saved_session.specs.declared.saved.SavedFile.{SavedFile}
 use Rattle.saved_files.specs.declared.file_faults.RestoreFault.{RestoreFault}
 use Rattle.saved_files.specs.declared.file_faults.RestoreFault.TheVariants as fault
-use Rattle.state_text.specs.Parts.{FilePart, file_in}
-use Rattle.state_text.specs.Ranges.{kind_at}
+use Rattle.saved_session.specs.Parts.{FilePart, file_in}
+use Rattle.saved_session.specs.Ranges.{kind_at}
 
 abbrev pub files_in : List SavedFile → List FilePart
 files_in files = map file_in files

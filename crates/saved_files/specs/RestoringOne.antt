@@ -17,8 +17,8 @@ use Rattle.unit_files.specs.Causes.{IsQuiet, IsFaultOf}
 use Rattle.unit_files.specs.Digests.{DigestSaid, NotDigested, Digested, IsReadingCall, digest_measured}
 use Rattle.saved_files.specs.declared.file_faults.RestoreFault.{RestoreFault}
 use Rattle.saved_files.specs.declared.file_faults.RestoreFault.TheVariants as fault
-use Rattle.state_text.specs.Parts.{FilePart}
-use Rattle.state_text.specs.Ranges.{kind_at}
+use Rattle.saved_session.specs.Parts.{FilePart}
+use Rattle.saved_session.specs.Ranges.{kind_at}
 use Rattle.saved_files.specs.Restoring.{unit_of, is_only_read, mode_of, FileRefusal, IsMissing, IsTooLong, HasChanged}
 use Rattle.saved_files.specs.Restoring.{CallFails}
 use Rattle.saved_files.specs.Restoring.{compared, refusal_of}

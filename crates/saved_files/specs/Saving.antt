@@ -16,8 +16,8 @@ use Rattle.unit_files.specs.Digests.{DigestSaid, NothingToDigest, NotDigested, D
 use Rattle.saved_files.specs.declared.saving.UnitPlace.{UnitPlace}
 use Rattle.saved_files.specs.declared.file_faults.SaveFault.{SaveFault}
 use Rattle.saved_files.specs.declared.file_faults.SaveFault.TheVariants as fault
-use Rattle.state_text.specs.Parts.{FilePart}
-use Rattle.state_text.specs.Ranges.{kind_at}
+use Rattle.saved_session.specs.Parts.{FilePart}
+use Rattle.saved_session.specs.Ranges.{kind_at}
 use Rattle.saved_files.specs.Restoring.{at_unit}
 
 -- the unit at a place

@@ -15,8 +15,8 @@ use Rattle.unit_files.specs.Answers.{failure_in}
 use Rattle.unit_files.specs.Causes.{IsQuiet}
 use Rattle.unit_files.specs.Digests.{digest_measured, IsDigestFault}
 use Rattle.saved_files.specs.declared.saving.UnitPlace.{UnitPlace}
-use Rattle.state_text.specs.Parts.{FilePart}
-use Rattle.state_text.specs.Ranges.{kind_at}
+use Rattle.saved_session.specs.Parts.{FilePart}
+use Rattle.saved_session.specs.Ranges.{kind_at}
 use Rattle.saved_files.specs.Restoring.{unit_of, attachment_of, at_unit}
 use Rattle.saved_files.specs.RestoringOne.{IsAsRead}
 use Rattle.saved_files.specs.Saving.{unit_at, flag_of, undigested, failing_first}

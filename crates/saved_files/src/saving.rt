@@ -6,7 +6,7 @@ ghost use Rattle.unit_files.specs.Attachments.{attachments_of, attachment_at, fi
 ghost use Rattle.unit_files.specs.Buffer.{disk_unit};
 ghost use Rattle.unit_files.specs.Digests.{IsReadingCall};
 ghost use Rattle.unit_files.specs.Open.{AllOpen};
-ghost use Rattle.state_text.specs.Parts.{file_in};
+ghost use Rattle.saved_session.specs.Parts.{file_in};
 ghost use Rattle.saved_files.specs.Restoring.{files_in, unit_of, IsUnitOf};
 ghost use Rattle.saved_files.specs.RestoringOne.{AreApart};
 ghost use Rattle.saved_files.specs.Saving.{unit_at, file_places, saved_files, first_unsaved, files_flushed};
@@ -18,7 +18,7 @@ use crate::file_faults::SaveFault;
 use crate::restoring::unit_of;
 use crate::unit_digest::digest_unit;
 use file_traits::Files;
-use state_text::{SavedFile, kind_at};
+use saved_session::{SavedFile, kind_at};
 use std::alloc::{AllocError, Global};
 use unit_files::{Attached, DetachFault, UnitFault};
 use unit_trait::{Kind, UnitName};

@@ -2,8 +2,8 @@
 use Rattle.std.proofs.Common.{◌≡◌, ◌∙◌, ap, ℕ, Bool, List, Ok, Err, OnOk}
 use Rattle.file_traits.specs.Lists.{NamedBytes}
 use Rattle.nova_machine.specs.Machine.{MachineState}
-use Rattle.state_file.specs.Listening.{with_port as ported_by}
-use Rattle.state_file.specs.Putting.{with_machine_of}
+use Rattle.state_transfer.specs.Listening.{with_port as ported_by}
+use Rattle.state_transfer.specs.Putting.{with_machine_of}
 use Rattle.scp_parser.specs.Command.{Request, Restore}
 use Rattle.command_session.specs.Live.{CommandState}
 use Rattle.command_session.specs.Nature.{IsUntold}

@@ -63,12 +63,12 @@ use Rattle.command_session.specs.WholeCalls.{whole_calls, write_calls, wrote_ans
 use Rattle.state_commands.specs.StateEffects.{unit_claim, flushed_with, save_by, save_reply, heard_live, listened_back, ported_back, restored_by, restored_as, restored_from, restore_reply}
 use Rattle.command_session.specs.Occupied.{is_occupied}
 use Rattle.state_text.specs.declared.fault.StateFault.{StateFault}
-use Rattle.state_file.specs.Listening.{wants_port}
-use Rattle.state_text.specs.Parts.{State}
+use Rattle.state_transfer.specs.Listening.{wants_port}
+use Rattle.saved_session.specs.Parts.{State}
 use Rattle.state_text.specs.Reading.{reading}
 use Rattle.saved_files.specs.Restoring.{FileRefusal}
 use Rattle.saved_files.specs.Saving.{first_unsaved}
-use Rattle.state_file.specs.Session.{saved}
+use Rattle.state_transfer.specs.Session.{saved}
 use Rattle.state_text.specs.Text.{text}
 use Rattle.command_session.specs.TapeEffects.{tape_in, tape_answer, tape_machine, loaded_machine, load_answer, load_reply, can_dump, dump_of, dump_answer, dump_after, dump_reply}
 use Rattle.binary_load.specs.declared.faults.LoadFault.{LoadFault}

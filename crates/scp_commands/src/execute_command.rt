@@ -8,7 +8,7 @@ ghost use Rattle.nova_machine.specs.declared.machine.Stop.TheVariants.{ConsoleFa
 ghost use Rattle.host_lines.specs.Traffic.{Answer as LineAnswer};
 ghost use Rattle.host_lines.specs.Told.{IsFirst, record_in};
 ghost use Rattle.nova_machine.specs.Comes.{output};
-ghost use Rattle.state_file.specs.SavedValid.{AreStandard};
+ghost use Rattle.state_transfer.specs.SavedValid.{AreStandard};
 ghost use Rattle.command_session.specs.declared.next.Next.TheVariants.{Ran};
 ghost use Rattle.command_session.specs.declared.fault.CommandFault.TheVariants.{OutOfMemory};
 ghost use Rattle.command_session.specs.Live.{live_in, beyond};

@@ -13,12 +13,12 @@ use Rattle.nova_machine.specs.Seen.{attached_in}
 use Rattle.nova_machine.specs.Run.{run}
 use Rattle.nova_machine.specs.declared.machine.Stop.{Stop}
 use Rattle.state_text.specs.declared.fault.StateFault.{StateFault}
-use Rattle.state_file.specs.Listening.{wants_port}
-use Rattle.state_text.specs.Parts.{State}
+use Rattle.state_transfer.specs.Listening.{wants_port}
+use Rattle.saved_session.specs.Parts.{State}
 use Rattle.state_text.specs.Reading.{reading}
 use Rattle.saved_files.specs.Restoring.{FileRefusal, first_refused}
 use Rattle.saved_files.specs.Saving.{first_unsaved}
-use Rattle.state_file.specs.Session.{saved}
+use Rattle.state_transfer.specs.Session.{saved}
 use Rattle.state_text.specs.Text.{text}
 use Rattle.operand_forms.specs.declared.listing.Listing.{Listing}
 use Rattle.operand_forms.specs.declared.listing.Test.{Test}

@@ -12,13 +12,13 @@ use Rattle.file_commands.specs.Notes.{CommandNote, Note, handed}
 use Rattle.nova_machine.specs.Comes.{Output}
 use Rattle.nova_machine.specs.LineChanges.{heard_with}
 use Rattle.expect_actions.specs.Watch.{WatchState, forgotten}
-use Rattle.state_text.specs.Parts.{State as SavedState}
+use Rattle.saved_session.specs.Parts.{State as SavedState}
 use Rattle.unit_files.specs.Attachments.{Attachment, attachment_at}
 use Rattle.unit_files.specs.Buffer.{Buffer, disk_unit}
 use Rattle.unit_files.specs.Acts.{flush_said, flushed_as, is_due_back, buffer_flushed}
 use Rattle.nova_machine.specs.Seen.{attached_in}
 use Rattle.nova_machine.specs.Valid.{CopyIsFile, DiskIsItsFile}
-use Rattle.state_text.specs.SavedWatch.{saved_watch}
+use Rattle.saved_session.specs.SavedWatch.{saved_watch}
 use Rattle.state_text.specs.Text.{text}
 use Rattle.scp_parser.specs.Command.{Save, Restore}
 use Rattle.command_session.specs.Live.{Live}

@@ -7,7 +7,7 @@ use Rattle.file_commands.specs.Notes.{handed}
 use Rattle.nova_machine.specs.Comes.{Output}
 use Rattle.nova_machine.specs.LineChanges.{heard_with}
 use Rattle.nova_machine.specs.Valid.{DiskIsItsFile}
-use Rattle.state_file.specs.Session.{saved_port}
+use Rattle.state_transfer.specs.Session.{saved_port}
 use Rattle.scp_parser.specs.Command.{Save, Restore}
 use Rattle.command_session.specs.Live.{Live}
 use Rattle.state_commands.specs.StateEffects.{flushed_with}

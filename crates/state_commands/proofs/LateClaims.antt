@@ -14,7 +14,7 @@ use Rattle.unit_files.specs.Digests.{digest_unless, digest_read, digest_measured
 use Rattle.file_commands.specs.declared.note.Subject.{Subject}
 use Rattle.file_commands.specs.Notes.{CommandNote}
 use Rattle.saved_files.specs.declared.saving.UnitPlace.{UnitPlace}
-use Rattle.state_text.specs.Parts.{FilePart}
+use Rattle.saved_session.specs.Parts.{FilePart}
 use Rattle.saved_files.specs.Restoring.{at_unit, unit_of, mode_of, is_only_read, behind_attaching, compared, refusal_of, first_of, first_refused, with_file}
 use Rattle.saved_files.specs.Saving.{unit_at, file_places, undigested, failing_first, first_undigested, disk_flushed, files_flushed, copy_flushed, unless_unflushed, first_unsaved}
 use Rattle.command_session.specs.Live.{Live}

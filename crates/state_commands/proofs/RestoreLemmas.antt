@@ -28,7 +28,7 @@ use Rattle.nova_machine.specs.Seen.{attached_in}
 use Rattle.nova_machine.proofs.Hearing.{heard-nothing}
 use Rattle.state_text.specs.declared.fault.StateFault.{StateFault}
 use Rattle.state_text.specs.declared.fault.StateFault.TheVariants as state
-use Rattle.state_text.specs.Parts.{State}
+use Rattle.saved_session.specs.Parts.{State}
 use Rattle.state_text.specs.Reading.{reading}
 use Rattle.saved_files.specs.Restoring.{FileRefusal, CallFails, first_refused}
 use Rattle.command_session.specs.declared.next.Next.TheVariants.{Ran}

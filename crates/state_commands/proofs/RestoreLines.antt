@@ -10,9 +10,9 @@ use Rattle.telnet_lines.specs.Joined.{seen_line}
 use Rattle.unit_trait.specs.declared.kind.UnitName.{UnitName}
 use Rattle.saved_files.specs.declared.file_faults.RestoreFault.{RestoreFault}
 use Rattle.saved_files.specs.declared.file_faults.RestoreFault.TheVariants as restore
-use Rattle.state_file.specs.Listening.{wants_port, with_port, IsListening, IsRefusedPort, LeavesLines, AreClosed}
-use Rattle.state_text.specs.Parts.{State}
-use Rattle.state_file.specs.PutBack.{put_back}
+use Rattle.state_transfer.specs.Listening.{wants_port, with_port, IsListening, IsRefusedPort, LeavesLines, AreClosed}
+use Rattle.saved_session.specs.Parts.{State}
+use Rattle.state_transfer.specs.PutBack.{put_back}
 use Rattle.saved_files.specs.Restoring.{FileRefusal, SaysFirst}
 use Rattle.command_session.specs.declared.next.Next.TheVariants.{Go}
 use Rattle.command_session.specs.declared.fault.CommandFault.TheVariants.{PortFailed}
@@ -34,7 +34,7 @@ use Rattle.whole_files.specs.Whole.{WholeIs, whole_act}
 use Rattle.unit_files.specs.Attachments.{no_attachments}
 use Rattle.nova_machine.specs.Comes.{Output}
 use Rattle.nova_machine.specs.Seen.{attached_in}
-use Rattle.state_file.specs.Listening.{IsPortFault}
+use Rattle.state_transfer.specs.Listening.{IsPortFault}
 use Rattle.state_text.specs.Reading.{reading}
 use Rattle.saved_files.specs.Restoring.{IsMissing, IsTooLong, HasChanged, claim_in, first_refused}
 use Rattle.command_session.specs.declared.fault.CommandFault.TheVariants.{NoFile, FileTooLong, Changed}

@@ -22,7 +22,7 @@ use Rattle.nova_machine.specs.Comes.{Output}
 use Rattle.nova_machine.specs.Machine.{MachineState}
 use Rattle.nova_machine.specs.Seen.{attached_in}
 use Rattle.saved_files.specs.Saving.{first_unsaved, disk_flushed, files_flushed, copy_flushed}
-use Rattle.state_file.specs.Session.{saved}
+use Rattle.state_transfer.specs.Session.{saved}
 use Rattle.state_text.specs.Text.{text}
 use Rattle.command_session.specs.declared.fault.CommandFault.TheVariants.{FileFailed}
 use Rattle.command_session.specs.Live.{Live, standing}
@@ -48,7 +48,7 @@ use Rattle.file_commands.proofs.Causes.{counted-quiet}
 use Rattle.file_commands.proofs.Possible.{none-done}
 use Rattle.expect_actions.specs.Watch.{WatchState}
 use Rattle.nova_machine.specs.Seen.{erased, seen, beside}
-use Rattle.state_text.specs.declared.saved.Saved.{Saved}
+use Rattle.saved_session.specs.declared.saved.Saved.{Saved}
 use Rattle.saved_files.specs.declared.file_faults.SaveFault.{SaveFault}
 use Rattle.saved_files.specs.declared.file_faults.SaveFault.TheVariants as save
 use Rattle.saved_files.specs.Saving.{save_claim, UnlessNoMemory, IfNoMemory, SaveCause}

@@ -2,13 +2,13 @@
 use Rattle.std.specs.Prelude.{◌≡◌, ℕ, Bool, IsTrue, List, Ok}
 use Rattle.file_traits.specs.Lists.{NamedBytes, bytes_of}
 use Rattle.unit_files.specs.Attachments.{attachments_of, no_attachments}
-use Rattle.state_file.specs.Listening.{with_port as ported_by}
-use Rattle.state_text.specs.Parts.{State}
-use Rattle.state_text.specs.SavedWatch.{watch_from}
-use Rattle.state_file.specs.Putting.{with_machine_of}
+use Rattle.state_transfer.specs.Listening.{with_port as ported_by}
+use Rattle.saved_session.specs.Parts.{State}
+use Rattle.saved_session.specs.SavedWatch.{watch_from}
+use Rattle.state_transfer.specs.Putting.{with_machine_of}
 use Rattle.state_text.specs.Reading.{reading}
 use Rattle.saved_files.specs.Restoring.{with_all}
-use Rattle.state_text.specs.Valid.{Valid}
+use Rattle.saved_session.specs.Valid.{Valid}
 use Rattle.scp_parser.specs.Command.{Request, Restore}
 use Rattle.command_session.specs.Live.{CommandState}
 use Rattle.command_session.specs.Reply.{Answer}

@@ -12,10 +12,10 @@ ghost use Rattle.whole_files.specs.declared.whole.WholeFault.TheVariants as whol
 ghost use Rattle.host_lines.specs.Traffic.{Answer as LineAnswer};
 ghost use Rattle.host_lines.specs.State.{LineState};
 ghost use Rattle.nova_machine.specs.Comes.{Output};
-ghost use Rattle.state_text.specs.Parts.{state_in};
-ghost use Rattle.state_file.specs.SavedValid.{AreStandard};
+ghost use Rattle.saved_session.specs.Parts.{state_in};
+ghost use Rattle.state_transfer.specs.SavedValid.{AreStandard};
 ghost use Rattle.state_text.specs.Text.{text};
-ghost use Rattle.state_text.specs.Valid.{Fits};
+ghost use Rattle.saved_session.specs.Valid.{Fits};
 ghost use Rattle.command_session.specs.declared.fault.CommandFault.TheVariants.{OutOfMemory};
 ghost use Rattle.command_session.specs.Live.{live_in, beyond};
 ghost use Rattle.command_session.specs.Remains.{AreLeft, MachineRemains};

@@ -1,17 +1,13 @@
-//! State files: a session is taken as it is saved, and put back.
+//! State files: a session is taken as it is saved, and put back; and what is saved is written as bytes, and read.
 #![tactic(auto)]
 
-mod putting;
-pub mod setting;
-pub mod taking;
-mod taking_machine;
-
 pub use saved_files::{RestoreFault, SaveFault, attach_all, digest_all};
-pub use setting::set_state;
-pub use state_text::{
+pub use saved_session::{
     Saved, SavedBreak, SavedCpu, SavedEvent, SavedExpect, SavedFile, SavedSend, SavedUnit,
+};
+pub use state_text::{
     StateFault, StateReader, read_state, state_texts_are_one_to_one, valid_states_are_read,
     write_state,
 };
+pub use state_transfer::{set_state, take_state};
 pub use std::alloc::AllocError as OutOfMemory;
-pub use taking::take_state;

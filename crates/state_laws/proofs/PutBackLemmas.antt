@@ -26,17 +26,17 @@ use Rattle.unit_list.specs.BusOrder.{place_of}
 use Rattle.nova_machine.specs.Machine.{MachineState}
 use Rattle.nova_machine.specs.Seen.{Seen, unnumbered, erased, attached_in}
 use Rattle.nova_machine.specs.Valid.{CopyIsFile}
-use Rattle.state_text.specs.Parts.{FilePart}
-use Rattle.state_text.specs.Ranges.{kind_at}
+use Rattle.saved_session.specs.Parts.{FilePart}
+use Rattle.saved_session.specs.Ranges.{kind_at}
 use Rattle.saved_files.specs.declared.saving.UnitPlace.{UnitPlace}
 use Rattle.saved_files.specs.Restoring.{attachment_of, with_all, copy_of}
 use Rattle.saved_files.specs.Saving.{unit_at, file_places, flag_of, saved_file, saved_at, saved_files}
-use Rattle.state_file.specs.Session.{saved_unit, saved_event, saved_machine, port_number, saved_port, saved}
-use Rattle.state_text.specs.SavedWatch.{saved_break, saved_expect, saved_send, saved_watch}
-use Rattle.state_file.specs.PutBack.{is_set, memory_from, unit_from, unit_named, event_from, held_from, machine_from, port_from, lines_from, put_back, IsIdleLine, CanBeSaved}
+use Rattle.state_transfer.specs.Session.{saved_unit, saved_event, saved_machine, port_number, saved_port, saved}
+use Rattle.saved_session.specs.SavedWatch.{saved_break, saved_expect, saved_send, saved_watch}
+use Rattle.state_transfer.specs.PutBack.{is_set, memory_from, unit_from, unit_named, event_from, held_from, machine_from, port_from, lines_from, put_back, IsIdleLine, CanBeSaved}
 use Rattle.state_laws.specs.Laws.{SavingPutsBack}
-use Rattle.state_text.specs.SavedWatch.{break_from, expect_from, send_from, watch_from}
-use Rattle.state_file.proofs.TakenSizes.{size-back}
+use Rattle.saved_session.specs.SavedWatch.{break_from, expect_from, send_from, watch_from}
+use Rattle.state_transfer.proofs.TakenSizes.{size-back}
 
 -- ---- numbers and lists
 

@@ -17,15 +17,15 @@ use Rattle.unit_files.specs.Buffer.{disk_unit, no_marks}
 use Rattle.nova_memory.specs.Memory.{IsMemory, IsSize}
 use Rattle.nova_machine.specs.Core.{IsAmong, AreListed}
 use Rattle.nova_machine.specs.Valid.{AreBytes, IsByteName, HasByteName, ValidMachine, CopyIsFile}
-use Rattle.state_text.specs.declared.saved.SavedEvent.{SavedEvent}
-use Rattle.state_text.specs.Parts.{FilePart, MachinePart}
-use Rattle.state_text.specs.Ranges.{is_size, kind_at, standard_kinds, FilePlace, is_name_length}
-use Rattle.state_text.specs.Valid.{AreWords, Follow, IsEvent, IsMachine, IsFile}
-use Rattle.state_text.specs.Reading.{with_event, behind_file}
+use Rattle.saved_session.specs.declared.saved.SavedEvent.{SavedEvent}
+use Rattle.saved_session.specs.Parts.{FilePart, MachinePart}
+use Rattle.saved_session.specs.Ranges.{is_size, kind_at, standard_kinds, FilePlace, is_name_length}
+use Rattle.saved_session.specs.Valid.{AreWords, Follow, IsEvent, IsMachine, IsFile}
+use Rattle.saved_session.specs.Order.{with_event, behind_file}
 use Rattle.saved_files.specs.Restoring.{unit_of, attachment_of, with_file, with_all, copy_of}
-use Rattle.state_file.specs.PutBack.{memory_from, unit_from, event_from, held_from, machine_from}
+use Rattle.state_transfer.specs.PutBack.{memory_from, unit_from, event_from, held_from, machine_from}
 use Rattle.nova_machine.proofs.Each.{every-set}
-use Rattle.state_file.proofs.PutBackMachineLemmas.{units-fit, units-standard, events-sound, among-ten}
+use Rattle.state_transfer.proofs.PutBackMachineLemmas.{units-fit, units-standard, events-sound, among-ten}
 
 -- ---- memory
 

@@ -10,16 +10,16 @@ use Rattle.expect_actions.specs.KeysFile.{most_keys}
 use Rattle.nova_machine.specs.Run.{last_time}
 use Rattle.nova_machine.specs.Seen.{Seen}
 use Rattle.nova_machine.specs.Valid.{IsPort, ValidLine, Valid as ValidSeen, CopyIsFile, DiskIsItsFile}
-use Rattle.state_text.specs.Parts.{State}
-use Rattle.state_text.specs.Valid.{Valid}
+use Rattle.saved_session.specs.Parts.{State}
+use Rattle.saved_session.specs.Valid.{Valid}
 use Rattle.saved_files.specs.Restoring.{with_all, copy_of}
-use Rattle.state_file.specs.PutBack.{machine_from, port_from, lines_from, put_back}
-use Rattle.state_file.specs.SavedValid.{AreStandard}
+use Rattle.state_transfer.specs.PutBack.{machine_from, port_from, lines_from, put_back}
+use Rattle.state_transfer.specs.SavedValid.{AreStandard}
 use Rattle.state_laws.specs.PutBackValid.{PutBackIsValid}
-use Rattle.state_file.proofs.PutBackMachineLemmas.{units-standard}
+use Rattle.state_transfer.proofs.PutBackMachineLemmas.{units-standard}
 use Rattle.state_laws.proofs.PutBackRange.{copy-is, as-many-places, slots-back, HasName, names-put, machine-in-range}
 use Rattle.nova_machine.proofs.Each.{every-replicate}
-use Rattle.state_text.specs.Reading.{place_of}
+use Rattle.saved_session.specs.Order.{place_of}
 use Rattle.state_laws.proofs.PutBackWatchLemmas.{watch-in-range}
 
 port-in-range : (port : ℕ) → port < 2 ^ 16 → IfSome (port_from port) IsPort

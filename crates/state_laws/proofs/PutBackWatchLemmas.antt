@@ -5,13 +5,13 @@ use Rattle.std.specs.List.{AllByRecursion}
 use Rattle.std.proofs.lemmas.Bool.{and_parts, leb-true}
 use Rattle.expect_actions.specs.Sends.{Send}
 use Rattle.nova_machine.specs.Valid.{AreShortActions, ValidBreak, ValidExpect, ValidWatch}
-use Rattle.state_text.specs.declared.saved.SavedSend.{SavedSend}
-use Rattle.state_text.specs.Parts.{BreakPart, ExpectPart, WatchPart}
-use Rattle.state_text.specs.Ranges.{longest_actions, most_breaks, most_expects, longest_text, most_sends}
-use Rattle.state_text.specs.Valid.{Follow, AreActions, IsBreak, IsExpect, IsSend, IsWatch}
-use Rattle.state_text.specs.Reading.{behind_break, behind_send}
-use Rattle.state_text.specs.SavedWatch.{break_from, expect_from, send_from, watch_from}
-use Rattle.state_text.proofs.WatchOrder.{at-most, address-from, breaks-rise, sends-in-time}
+use Rattle.saved_session.specs.declared.saved.SavedSend.{SavedSend}
+use Rattle.saved_session.specs.Parts.{BreakPart, ExpectPart, WatchPart}
+use Rattle.saved_session.specs.Ranges.{longest_actions, most_breaks, most_expects, longest_text, most_sends}
+use Rattle.saved_session.specs.Valid.{Follow, AreActions, IsBreak, IsExpect, IsSend, IsWatch}
+use Rattle.saved_session.specs.Order.{behind_break, behind_send}
+use Rattle.saved_session.specs.SavedWatch.{break_from, expect_from, send_from, watch_from}
+use Rattle.saved_session.proofs.WatchOrder.{at-most, address-from, breaks-rise, sends-in-time}
 
 -- no actions are longer than their number can tell
 actions-short : (actions : List ℕ) → AreActions actions → AreShortActions actions

@@ -11,14 +11,14 @@ use Rattle.unit_trait.specs.declared.kind.Kind.{Kind}
 use Rattle.unit_trait.proofs.EveryKind.{every-kind}
 use Rattle.unit_files.specs.Attachments.{Attachment, attachment_at, longest_file}
 use Rattle.unit_files.specs.Attachments as unit_files
-use Rattle.state_text.specs.Parts.{FilePart}
-use Rattle.state_text.specs.Ranges.{kind_at, FilePlace, takes_file_at, is_next_unit, only_writes, is_read_only_of, is_name_length, longest_file_of}
+use Rattle.saved_session.specs.Parts.{FilePart}
+use Rattle.saved_session.specs.Ranges.{kind_at, FilePlace, takes_file_at, is_next_unit, only_writes, is_read_only_of, is_name_length, longest_file_of}
 use Rattle.state_text.specs.Laws.{FileHasWidths}
-use Rattle.state_text.specs.Valid.{AreBytes, Follow, IsFile, AreFiles}
-use Rattle.state_text.specs.Reading.{place_of as file_place, behind_file}
+use Rattle.saved_session.specs.Valid.{AreBytes, Follow, IsFile, AreFiles}
+use Rattle.saved_session.specs.Order.{place_of as file_place, behind_file}
 use Rattle.saved_files.specs.declared.saving.UnitPlace.{UnitPlace}
 use Rattle.saved_files.specs.Saving.{unit_at, file_places, flag_of, saved_file, saved_at, saved_files}
-use Rattle.state_file.specs.SavedValid.{IsTaken, AreTaken}
+use Rattle.state_transfer.specs.SavedValid.{IsTaken, AreTaken}
 
 -- ---- digests
 

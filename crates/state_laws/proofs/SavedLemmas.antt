@@ -22,14 +22,14 @@ use Rattle.nova_machine.specs.Machine.{MachineState}
 use Rattle.nova_machine.specs.Run.{last_time}
 use Rattle.nova_machine.specs.Valid.{ValidMachine}
 use Rattle.expect_actions.specs.KeysFile.{most_keys}
-use Rattle.state_text.specs.declared.saved.SavedEvent.{SavedEvent}
-use Rattle.state_text.specs.Ranges.{is_flag, is_size, is_address, kind_at, standard_kinds, is_position, register_count, within_limits, holds_value, most_events, is_event_of, is_later}
-use Rattle.state_text.specs.Valid.{AreWords, Follow, IsCpu, CanHold, IsUnit, IsEvent, IsMachine}
-use Rattle.state_text.specs.Reading.{next_number, with_event}
+use Rattle.saved_session.specs.declared.saved.SavedEvent.{SavedEvent}
+use Rattle.saved_session.specs.Ranges.{is_flag, is_size, is_address, kind_at, standard_kinds, is_position, register_count, within_limits, holds_value, most_events, is_event_of, is_later}
+use Rattle.saved_session.specs.Valid.{AreWords, Follow, IsCpu, CanHold, IsUnit, IsEvent, IsMachine}
+use Rattle.saved_session.specs.Order.{next_number, with_event}
 use Rattle.saved_files.specs.Saving.{flag_of}
-use Rattle.state_file.specs.Session.{saved_cpu, saved_unit, saved_event, saved_machine}
-use Rattle.state_file.specs.SavedValid.{AreStandard}
-use Rattle.state_file.proofs.TakenSizes.{size-back, as-many, sound-behind, few-events}
+use Rattle.state_transfer.specs.Session.{saved_cpu, saved_unit, saved_event, saved_machine}
+use Rattle.state_transfer.specs.SavedValid.{AreStandard}
+use Rattle.state_transfer.proofs.TakenSizes.{size-back, as-many, sound-behind, few-events}
 use Rattle.state_laws.proofs.PutBackLemmas.{kind-back, place-low}
 use Rattle.state_laws.proofs.SavedWatchLemmas.{few}
 

@@ -6,11 +6,11 @@ use Rattle.host_lines.specs.Traffic.{Peer}
 use Rattle.telnet_lines.specs.Line.{LineOf}
 use Rattle.nova_machine.specs.Seen.{Seen, attached_in}
 use Rattle.state_text.specs.declared.fault.StateFault.{StateFault}
-use Rattle.state_text.specs.Parts.{State}
-use Rattle.state_text.specs.Valid.{Valid}
-use Rattle.state_file.specs.Session.{port_number, saved_port, saved}
-use Rattle.state_file.specs.PutBack.{put_back}
-use Rattle.state_file.specs.SavedValid.{HasPort16, IsStandard}
+use Rattle.saved_session.specs.Parts.{State}
+use Rattle.saved_session.specs.Valid.{Valid}
+use Rattle.state_transfer.specs.Session.{port_number, saved_port, saved}
+use Rattle.state_transfer.specs.PutBack.{put_back}
+use Rattle.state_transfer.specs.SavedValid.{HasPort16, IsStandard}
 use Rattle.state_laws.specs.Laws.{SavedIsValid}
 use Rattle.state_text.proofs.FitLaws.{texts-are-read}
 use Rattle.state_laws.proofs.PutBackLemmas.{saving-puts-back}

@@ -11,12 +11,12 @@ use Rattle.expect_actions.specs.Breaks.{Rising}
 use Rattle.expect_actions.specs.Sends.{Send, InTime}
 use Rattle.expect_actions.specs.Watch.{WatchState}
 use Rattle.nova_machine.specs.Valid.{ValidBreak, ValidWatch}
-use Rattle.state_text.specs.Ranges.{is_address, most_breaks, most_expects, longest_text, most_sends, last_send}
-use Rattle.state_text.specs.Valid.{Follow, IsBreak, IsExpect, IsSend, IsWatch}
-use Rattle.state_text.specs.Reading.{behind_break, behind_send}
-use Rattle.state_text.specs.SavedWatch.{saved_break, saved_expect, saved_send, saved_watch}
-use Rattle.state_file.specs.SavedValid.{IsGivenBreak, IsGivenExpect, AreGiven}
-use Rattle.state_text.proofs.WatchOrder.{all-weaker}
+use Rattle.saved_session.specs.Ranges.{is_address, most_breaks, most_expects, longest_text, most_sends, last_send}
+use Rattle.saved_session.specs.Valid.{Follow, IsBreak, IsExpect, IsSend, IsWatch}
+use Rattle.saved_session.specs.Order.{behind_break, behind_send}
+use Rattle.saved_session.specs.SavedWatch.{saved_break, saved_expect, saved_send, saved_watch}
+use Rattle.state_transfer.specs.SavedValid.{IsGivenBreak, IsGivenExpect, AreGiven}
+use Rattle.saved_session.proofs.WatchOrder.{all-weaker}
 
 -- at most so many of them
 pub few : {A B : Type 0} (f : A → B) (xs : List A) (most : ℕ) → length xs ≤ most

@@ -10,15 +10,15 @@ use Rattle.expect_actions.specs.declared.expects.Expect.{Expect}
 use Rattle.nova_machine.specs.Seen.{Seen}
 use Rattle.nova_machine.specs.Valid.{HasByteName, ValidBreak, ValidExpect, ValidWatch, Valid as ValidSeen}
 use Rattle.expect_actions.specs.Watch.{WatchState}
-use Rattle.state_text.specs.declared.saved.SavedEvent.{SavedEvent}
-use Rattle.state_text.specs.declared.saved.SavedSend.{SavedSend}
+use Rattle.saved_session.specs.declared.saved.SavedEvent.{SavedEvent}
+use Rattle.saved_session.specs.declared.saved.SavedSend.{SavedSend}
 use Rattle.saved_files.specs.declared.saving.UnitPlace.{UnitPlace}
-use Rattle.state_text.specs.Parts.{UnitPart, FilePart, BreakPart, ExpectPart, MachinePart}
+use Rattle.saved_session.specs.Parts.{UnitPart, FilePart, BreakPart, ExpectPart, MachinePart}
 use Rattle.saved_files.specs.Saving.{unit_at, file_places, saved_at, saved_files}
-use Rattle.state_file.specs.Session.{saved_machine, saved}
-use Rattle.state_text.specs.SavedWatch.{saved_break, saved_expect, saved_watch}
+use Rattle.state_transfer.specs.Session.{saved_machine, saved}
+use Rattle.saved_session.specs.SavedWatch.{saved_break, saved_expect, saved_watch}
 use Rattle.state_text.specs.Text.{number_text, word_text, register_text, unit_text, event_text, machine_text, file_text, break_text, expect_text, send_text, watch_text, head, body, text}
-use Rattle.state_text.specs.Valid.{AreBytes}
+use Rattle.saved_session.specs.Valid.{AreBytes}
 use Rattle.state_laws.proofs.SavedFileLemmas.{bytes-both, sha256-bytes}
 
 -- ---- numbers and lists

@@ -8,10 +8,10 @@ use Rattle.nova_machine.specs.Machine.{MachineState}
 use Rattle.nova_machine.specs.Seen.{Seen, erased, Beside, seen}
 use Rattle.state_text.specs.Reading.{reading}
 use Rattle.state_text.specs.Text.{text}
-use Rattle.state_text.specs.Valid.{Valid, Fits}
-use Rattle.state_file.specs.PutBack.{put_back, IsIdleLine, CanBeSaved}
-use Rattle.state_file.specs.SavedValid.{IsStandard}
-use Rattle.state_file.specs.Session.{saved}
+use Rattle.saved_session.specs.Valid.{Valid, Fits}
+use Rattle.state_transfer.specs.PutBack.{put_back, IsIdleLine, CanBeSaved}
+use Rattle.state_transfer.specs.SavedValid.{IsStandard}
+use Rattle.state_transfer.specs.Session.{saved}
 
 -- What was saved is put back.
 pub record SavingPutsBack : Type 0 where

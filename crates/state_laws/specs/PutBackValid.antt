@@ -3,10 +3,10 @@ use Rattle.std.specs.Prelude.{◌≤◌}
 use Rattle.nova_machine.specs.Run.{last_time}
 use Rattle.nova_machine.specs.Seen.{Seen}
 use Rattle.nova_machine.specs.Valid.{Valid as ValidSeen, DiskIsItsFile}
-use Rattle.state_text.specs.Parts.{State}
-use Rattle.state_text.specs.Valid.{Valid}
-use Rattle.state_file.specs.PutBack.{put_back}
-use Rattle.state_file.specs.SavedValid.{AreStandard}
+use Rattle.saved_session.specs.Parts.{State}
+use Rattle.saved_session.specs.Valid.{Valid}
+use Rattle.state_transfer.specs.PutBack.{put_back}
+use Rattle.state_transfer.specs.SavedValid.{AreStandard}
 
 -- All is in range, where it was so before. Time has not passed its end, the units are those of a standard machine, and
 -- what the disk holds of its file is what is in it.

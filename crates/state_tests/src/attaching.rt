@@ -1,6 +1,6 @@
 // The files of a saved session: attached and compared, with calls on files that fail, and saved again.
-ghost use Rattle.state_text.specs.Parts.{state_in};
-ghost use Rattle.state_text.specs.Valid.{Valid};
+ghost use Rattle.saved_session.specs.Parts.{state_in};
+ghost use Rattle.saved_session.specs.Valid.{Valid};
 
 use crate::texts::{FIRST, bytes_of, equal, holds, number};
 use host_files::{FileCall, FileId, Files, MemFiles};

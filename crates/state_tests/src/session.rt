@@ -7,9 +7,9 @@ ghost use Rattle.unit_trait.specs.declared.kind.Kind.TheVariants.{Tti1 as second
 ghost use Rattle.unit_trait.specs.Row.{initial_unit};
 ghost use Rattle.unit_files.specs.Buffer.{nothing_attached};
 ghost use Rattle.nova_machine.specs.Machine.{attached_files};
-ghost use Rattle.state_text.specs.Parts.{state_in};
-ghost use Rattle.state_file.specs.SavedValid.{AreStandard};
-ghost use Rattle.state_text.specs.Valid.{Valid};
+ghost use Rattle.saved_session.specs.Parts.{state_in};
+ghost use Rattle.state_transfer.specs.SavedValid.{AreStandard};
+ghost use Rattle.saved_session.specs.Valid.{Valid};
 
 use crate::attaching::{
     FILES, Row, add_bytes, answer_of, files_of, row_of, same_files, stand, state_text,

@@ -5,8 +5,8 @@ ghost use Rattle.unit_trait.specs.declared.kind.Kind.TheVariants.{Ptr as readers
 ghost use Rattle.unit_trait.specs.declared.kind.Kind.TheVariants.{Tti as keyboards, Tto as teleprinters};
 ghost use Rattle.unit_trait.specs.declared.kind.Kind.TheVariants.{Tti1 as second_keyboards, Tto1 as second_printers};
 ghost use Rattle.unit_trait.specs.Row.{initial_unit};
-ghost use Rattle.state_text.specs.Parts.{state_in};
-ghost use Rattle.state_text.specs.Valid.{Valid};
+ghost use Rattle.saved_session.specs.Parts.{state_in};
+ghost use Rattle.saved_session.specs.Valid.{Valid};
 
 use crate::attaching::Row;
 use crate::session::plays_on;

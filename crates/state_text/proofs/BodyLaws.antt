@@ -9,9 +9,9 @@ use Rattle.std.proofs.lemmas.List.{take_at, take_all, length-append}
 use Rattle.std.proofs.lemmas.Slice.Eq.{bytes_eq-Decides}
 use Rattle.state_text.specs.declared.fault.StateFault.{StateFault}
 use Rattle.state_text.specs.declared.fault.StateFault.TheVariants.{Truncated, NotState, Version}
-use Rattle.state_text.specs.Parts.{FilePart, MachinePart, State}
+use Rattle.saved_session.specs.Parts.{FilePart, MachinePart, State}
 use Rattle.state_text.specs.Text.{number_text, head, this_version, body}
-use Rattle.state_text.specs.Valid.{IsWatch, Valid}
+use Rattle.saved_session.specs.Valid.{IsWatch, Valid}
 use Rattle.state_text.specs.Readers.{At, at_of, counted, number}
 use Rattle.state_text.specs.Reading.{begins, head_at, version_at, body_at}
 use Rattle.state_text.proofs.Results.{first_chosen}

@@ -8,9 +8,9 @@ use Rattle.sha2.specs.Sha256.{sha256}
 use Rattle.sha2.proofs.Facts256.{length-sha256}
 use Rattle.state_text.specs.declared.fault.StateFault.{StateFault}
 use Rattle.state_text.specs.declared.fault.StateFault.TheVariants.{NotState, Version, BadDigest, BadField, Truncated, OutOfMemory}
-use Rattle.state_text.specs.Parts.{State}
+use Rattle.saved_session.specs.Parts.{State}
 use Rattle.state_text.specs.Text.{body, text}
-use Rattle.state_text.specs.Valid.{Valid}
+use Rattle.saved_session.specs.Valid.{Valid}
 use Rattle.state_text.specs.Readers.{At, at_of, followed, counted}
 use Rattle.state_text.specs.Reading.{body_at, first_place, ended, compared, sealed, reading}
 use Rattle.state_text.proofs.Results.{one_value, no_fault}

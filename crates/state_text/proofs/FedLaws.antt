@@ -7,14 +7,14 @@ use Rattle.std.proofs.lemmas.Bool.{le-ltb}
 use Rattle.std.proofs.lemmas.List.{take_at, length-append, length-drop}
 use Rattle.sha2.specs.Sha256.{sha256}
 use Rattle.sha2.specs.Hashers.{Holds256}
-use Rattle.state_text.specs.declared.saved.Saved.{Saved}
+use Rattle.saved_session.specs.declared.saved.Saved.{Saved}
 use Rattle.state_text.specs.declared.fault.StateFault.{StateFault}
 use Rattle.state_text.specs.declared.fault.StateFault.TheVariants.{NotState, Version, BadDigest, BadField, Truncated, OutOfMemory}
 use Rattle.state_text.specs.declared.state_reader.Part.{Part}
 use Rattle.state_text.specs.declared.state_reader.Part.TheVariants as TheParts
 use Rattle.state_text.specs.declared.state_reader.Part.TheVariants.{Head, Cpu, Words, Units, Agenda, FileCount, Files, Port, BreakCount, Breaks, ExpectCount, Expects, Tail, SendCount, Sends, Seal, Faulty}
 use Rattle.state_text.specs.declared.state_reader.StateReader.{StateReader}
-use Rattle.state_text.specs.Parts.{State, state_in}
+use Rattle.saved_session.specs.Parts.{State, state_in}
 use Rattle.state_text.specs.Readers.{At, at_of, followed, behind, counted, Fails, Gives}
 use Rattle.state_text.specs.Reading.{body_at, first_place, ended, compared, sealed, reading}
 use Rattle.state_text.specs.Held.{at_in}

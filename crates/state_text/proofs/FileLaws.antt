@@ -6,12 +6,13 @@ use Rattle.std.proofs.lemmas.Bool.{and_parts, leb-true}
 use Rattle.std.specs.Str.{is_utf8}
 use Rattle.unit_trait.specs.declared.kind.Kind.{Kind}
 use Rattle.unit_trait.specs.declared.kind.Kind.TheVariants.{Dsk, Mta, Lpt, Ptr, Ptp, Clk, Tti, Tto, Tti1, Tto1, Qty}
-use Rattle.state_text.specs.Parts.{FilePart}
-use Rattle.state_text.specs.Ranges.{is_flag, kind_at, FilePlace, takes_file_at, is_next_unit, only_writes, is_read_only_of, is_name_length, longest_file_of, is_file_length, any_count}
+use Rattle.saved_session.specs.Parts.{FilePart}
+use Rattle.saved_session.specs.Ranges.{is_flag, kind_at, FilePlace, takes_file_at, is_next_unit, only_writes, is_read_only_of, is_name_length, longest_file_of, is_file_length}
+use Rattle.state_text.specs.Readers.{any_count, number, tested}
 use Rattle.state_text.specs.Text.{sized_text, listed_text, file_text}
-use Rattle.state_text.specs.Valid.{IsFile, AreFiles}
-use Rattle.state_text.specs.Readers.{number, tested}
-use Rattle.state_text.specs.Reading.{name_at, file_at, place_of, behind_file, files_at}
+use Rattle.saved_session.specs.Valid.{IsFile, AreFiles}
+use Rattle.state_text.specs.Reading.{name_at, file_at, files_at}
+use Rattle.saved_session.specs.Order.{place_of, behind_file}
 use Rattle.state_text.proofs.ReaderLaws.{IsReaderOf, field_is, last_is, recast, retold}
 use Rattle.state_text.proofs.Widths.{Passes, Tested, u8_is, u16_is, u64_is, range_is, test_is}
 use Rattle.state_text.proofs.Lists.{AreListed, listed_is, AreSized, sized_is, AreExactly, exactly_is}

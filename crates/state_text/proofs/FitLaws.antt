@@ -2,16 +2,17 @@
 use Rattle.std.proofs.Common.{◌≡◌, ℕ, ◌^◌, ◌<◌, true, List, [], ◌∷◌, length, Result, Ok, Err, arith}
 use Rattle.std.specs.Prelude.{nat_le, IfOk}
 use Rattle.std.specs.List.{AllByRecursion}
-use Rattle.state_text.specs.declared.saved.Saved.{Saved}
+use Rattle.saved_session.specs.declared.saved.Saved.{Saved}
 use Rattle.state_text.specs.declared.fault.StateFault.{StateFault}
-use Rattle.state_text.specs.Parts.{UnitPart, FilePart, BreakPart, ExpectPart, State, state_in}
+use Rattle.saved_session.specs.Parts.{UnitPart, FilePart, BreakPart, ExpectPart, State, state_in}
 use Rattle.state_text.specs.Readers.{Gives}
-use Rattle.state_text.specs.Ranges.{kind_at, standard_kinds, register_count, most_events, FilePlace, is_name_length, most_breaks, longest_actions, most_expects, longest_text, is_text_length, most_sends}
-use Rattle.state_text.specs.Valid.{Follow, IsUnit, IsFile, IsBreak, IsExpect, Valid, UnitsFit, FilesFit, BreaksFit, ExpectsFit, Fits}
-use Rattle.state_text.specs.Reading.{next_number, behind_file, behind_break, reading}
+use Rattle.saved_session.specs.Ranges.{kind_at, standard_kinds, register_count, most_events, FilePlace, is_name_length, most_breaks, longest_actions, most_expects, longest_text, is_text_length, most_sends}
+use Rattle.saved_session.specs.Valid.{Follow, IsUnit, IsFile, IsBreak, IsExpect, Valid, UnitsFit, FilesFit, BreaksFit, ExpectsFit, Fits}
+use Rattle.state_text.specs.Reading.{reading}
+use Rattle.saved_session.specs.Order.{next_number, behind_file, behind_break}
 use Rattle.state_text.specs.Laws.{TextsAreRead}
 use Rattle.state_text.proofs.ReaderLaws.{IsBytes}
-use Rattle.state_text.proofs.MachineLaws.{few_registers}
+use Rattle.saved_session.proofs.RegisterCounts.{few_registers}
 use Rattle.state_text.proofs.SealLaws.{reading_found, reading_again}
 use Rattle.state_text.proofs.EndLaws.{cut_short, bytes_behind_it}
 

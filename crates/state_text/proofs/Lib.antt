@@ -14,6 +14,3 @@ pub mod FitLaws
 pub mod EndLaws
 pub mod PieceLaws
 pub mod FedLaws
-pub mod PuttingWatchLemmas
-pub mod TakenLists
-pub mod WatchOrder

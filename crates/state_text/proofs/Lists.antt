@@ -3,7 +3,7 @@ use Rattle.std.proofs.Common.{◌≡◌, ℕ, zero, suc, Bool, true, List, [], �
 use Rattle.std.specs.List.{flat_map, AllByRecursion}
 use Rattle.std.specs.Int.{Width}
 use Rattle.state_text.specs.Text.{number_text, sized_text, listed_text}
-use Rattle.state_text.specs.Valid.{AreBytes, Follow}
+use Rattle.saved_session.specs.Valid.{AreBytes, Follow}
 use Rattle.state_text.specs.Readers.{Reader, ◌>>=◌, gives, counted, tested, chain, alike, unbound}
 use Rattle.state_text.proofs.ReaderLaws.{IsBytes, IsReaderOf, HasSize, counted_is, joined_is, made_is, gives_is, retold, tested_is}
 

@@ -4,14 +4,13 @@ use Rattle.std.proofs.Common.{◌≡◌, ℕ, ◌*◌, ◌^◌, ◌<◌, List, [
 use Rattle.std.specs.List.{flat_map, AllByRecursion}
 use Rattle.std.specs.Int.{Width, w8, w16, w32, w64}
 use Rattle.sha2.specs.Sha256.{sha256}
-use Rattle.state_text.specs.declared.saved.SavedCpu.{SavedCpu}
-use Rattle.state_text.specs.declared.saved.SavedEvent.{SavedEvent}
-use Rattle.state_text.specs.declared.saved.SavedSend.{SavedSend}
-use Rattle.state_text.specs.Parts.{UnitPart, FilePart, BreakPart, ExpectPart, MachinePart, WatchPart, State}
-use Rattle.state_text.specs.Ranges.{any_bytes}
+use Rattle.saved_session.specs.declared.saved.SavedCpu.{SavedCpu}
+use Rattle.saved_session.specs.declared.saved.SavedEvent.{SavedEvent}
+use Rattle.saved_session.specs.declared.saved.SavedSend.{SavedSend}
+use Rattle.saved_session.specs.Parts.{UnitPart, FilePart, BreakPart, ExpectPart, MachinePart, WatchPart, State}
+use Rattle.state_text.specs.Readers.{any_bytes, Reader, ◌>>=◌, gives, counted, number, tested, chain, alike, unbound}
 use Rattle.state_text.specs.Text.{number_text, word_text, register_text, sized_text, listed_text, cpu_text, unit_text, event_text, machine_text, file_text, break_text, expect_text, send_text, watch_text, head, this_version, body, text}
-use Rattle.state_text.specs.Valid.{AreBytes, AreWords, UnitsFit, FilesFit, BreaksFit, ExpectFits, ExpectsFit, Fits}
-use Rattle.state_text.specs.Readers.{Reader, ◌>>=◌, gives, counted, number, tested, chain, alike, unbound}
+use Rattle.saved_session.specs.Valid.{AreBytes, AreWords, UnitsFit, FilesFit, BreaksFit, ExpectFits, ExpectsFit, Fits}
 use Rattle.state_text.specs.Reading.{words_at, head_at, version_at}
 use Rattle.state_text.specs.Laws.{CpuHasWidths, UnitHasWidths, EventHasWidths, FileHasWidths, BreakHasWidths, ExpectHasWidths, SendHasWidths, HasWidths, OneToOne}
 use Rattle.state_text.proofs.ReaderLaws.{IsReaderOf, field_is, last_is, recast, splits}

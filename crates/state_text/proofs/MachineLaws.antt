@@ -8,14 +8,16 @@ use Rattle.std.proofs.lemmas.Bool.{eqb-true, and_parts, ltb-true}
 use Rattle.unit_trait.specs.declared.kind.Kind.{Kind}
 use Rattle.unit_trait.specs.declared.kind.Kind.TheVariants.{Dsk, Mta, Lpt, Ptr, Ptp, Clk, Tti, Tto, Tti1, Tto1, Qty}
 use Rattle.unit_trait.specs.Kinds.{units_of}
-use Rattle.state_text.specs.declared.saved.SavedCpu.{SavedCpu}
-use Rattle.state_text.specs.declared.saved.SavedEvent.{SavedEvent}
-use Rattle.state_text.specs.Parts.{UnitPart, MachinePart}
-use Rattle.state_text.specs.Ranges.{is_flag, is_size, is_address, is_time, is_key_count, kind_at, standard_kinds, is_position, register_count, holds_value, most_events, is_free, can_wait, comes_last}
+use Rattle.saved_session.specs.declared.saved.SavedCpu.{SavedCpu}
+use Rattle.saved_session.specs.declared.saved.SavedEvent.{SavedEvent}
+use Rattle.saved_session.specs.Parts.{UnitPart, MachinePart}
+use Rattle.saved_session.specs.Ranges.{is_flag, is_size, is_address, is_time, is_key_count, kind_at, standard_kinds, is_position, register_count, holds_value, most_events, is_free, can_wait, comes_last}
 use Rattle.state_text.specs.Text.{number_text, word_text, register_text, listed_text, cpu_text, unit_text, event_text, machine_text}
-use Rattle.state_text.specs.Valid.{Follow, IsCpu, CanHold, IsUnit, IsEvent, IsMachine}
+use Rattle.saved_session.specs.Valid.{Follow, IsCpu, CanHold, IsUnit, IsEvent, IsMachine}
+use Rattle.saved_session.proofs.RegisterCounts.{few_registers}
 use Rattle.state_text.specs.Readers.{number, tested}
-use Rattle.state_text.specs.Reading.{words_at, cpu_at, register_value_at, next_number, registers_at, unit_at, units_at, event_at, with_event, agenda_at, machine_at}
+use Rattle.state_text.specs.Reading.{words_at, cpu_at, register_value_at, registers_at, unit_at, units_at, event_at, agenda_at, machine_at}
+use Rattle.saved_session.specs.Order.{next_number, with_event}
 use Rattle.state_text.proofs.ReaderLaws.{IsReaderOf, field_is, last_is, recast, retold}
 use Rattle.state_text.proofs.Widths.{Below, Passes, Tested, u8_is, u16_is, u32_is, u64_is, range_is, test_is}
 use Rattle.state_text.proofs.Lists.{AreMany, many_is, AreListed, listed_is}
@@ -98,20 +100,6 @@ cpu_is =
 
 register_is : (kind : Kind) (i : ℕ) → IsReaderOf (register_value_at kind i) register_text (CanHold kind i)
 register_is kind i = test_is w32 (2 ^ 32) (holds_value kind i) u32_is
-
-pub few_registers : (kind : Kind) → register_count kind < 2 ^ 8
-unfolding register_count
-few_registers Dsk = omega arith
-few_registers Mta = omega arith
-few_registers Lpt = omega arith
-few_registers Ptr = omega arith
-few_registers Ptp = omega arith
-few_registers Clk = omega arith
-few_registers Tti = omega arith
-few_registers Tto = omega arith
-few_registers Tti1 = omega arith
-few_registers Tto1 = omega arith
-few_registers Qty = omega arith
 
 abbrev is_count_of : Kind → ℕ → Bool
 is_count_of kind n = n == register_count kind

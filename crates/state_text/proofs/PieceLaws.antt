@@ -5,8 +5,8 @@ use Rattle.state_text.specs.declared.fault.StateFault.{StateFault}
 use Rattle.state_text.specs.declared.fault.StateFault.TheVariants.{NotState, Version, BadDigest, BadField, Truncated, OutOfMemory}
 use Rattle.state_text.specs.declared.state_reader.StateReader.{StateReader}
 use Rattle.state_text.specs.declared.state_reader.Part.{Part}
-use Rattle.state_text.specs.Parts.{ExpectPart, MachinePart, WatchPart, state_in}
-use Rattle.state_text.specs.Readers.{At, at_of, Reader, followed, ◌>>=◌, chain, Fails}
+use Rattle.saved_session.specs.Parts.{ExpectPart, MachinePart, WatchPart, state_in}
+use Rattle.state_text.specs.Readers.{At, at_of, Reader, followed, ◌>>=◌, chain, Fails, any_count, number, tested, alike, unbound}
 use Rattle.state_text.specs.Held.{Held, at_in, IsBytes, IsPassed, IsThere}
 use Rattle.state_text.specs.Pieces.{longer, followed_up, still, rest_in, rest_of, Stage, StillOpen, AtSeal, AtFault, stage, LetsGo, IsFed, behind_version, behind_cpu, behind_words, behind_machine, behind_files, behind_breaks, behind_expects, behind_sends, behind_watch}
 use Rattle.state_text.specs.Steps.{IsWanted, IsList, behind_list, Found, Stops, KeepsOn, parts_behind, steps_left, GoesOn}
@@ -18,9 +18,9 @@ use Rattle.state_text.specs.declared.state_reader.Part.TheVariants as TheParts
 use Rattle.state_text.specs.declared.state_reader.Part.TheVariants.{Head, Cpu, Words, Units, Agenda, FileCount, Files, Port, BreakCount, Breaks, ExpectCount, Expects, Tail, SendCount, Sends, Seal, Faulty}
 use Rattle.std.specs.Int.{w8, w16}
 use Rattle.state_text.specs.Text.{number_text}
-use Rattle.state_text.specs.Ranges.{any_count, most_breaks, most_expects, most_sends}
-use Rattle.state_text.specs.Readers.{number, tested, alike, unbound}
-use Rattle.state_text.specs.Reading.{head_at, version_at, cpu_at, machine_at, file_at, place_of, behind_file, files_at, break_at, behind_break, breaks_at, expect_at, expects_at, send_at, behind_send, sends_at, watch_at, body_at, first_place}
+use Rattle.saved_session.specs.Ranges.{most_breaks, most_expects, most_sends}
+use Rattle.state_text.specs.Reading.{head_at, version_at, cpu_at, machine_at, file_at, files_at, break_at, breaks_at, expect_at, expects_at, send_at, sends_at, watch_at, body_at, first_place}
+use Rattle.saved_session.specs.Order.{place_of, behind_file, behind_break, behind_send}
 use Rattle.state_text.proofs.ReaderLaws.{IsReaderOf, tested_is}
 use Rattle.state_text.proofs.Widths.{Below, u8_is, u16_is}
 

@@ -7,12 +7,12 @@ use Rattle.std.proofs.lemmas.List.{take_at, length-append, nil_from_length}
 use Rattle.std.proofs.lemmas.Slice.Eq.{bytes_eq-Decides}
 use Rattle.sha2.specs.Sha256.{sha256}
 use Rattle.sha2.proofs.Facts256.{length-sha256}
-use Rattle.state_text.specs.declared.saved.Saved.{Saved}
+use Rattle.saved_session.specs.declared.saved.Saved.{Saved}
 use Rattle.state_text.specs.declared.fault.StateFault.{StateFault}
 use Rattle.state_text.specs.declared.fault.StateFault.TheVariants.{BadField, BadDigest}
-use Rattle.state_text.specs.Parts.{State, state_in}
+use Rattle.saved_session.specs.Parts.{State, state_in}
 use Rattle.state_text.specs.Text.{body, text}
-use Rattle.state_text.specs.Valid.{Valid}
+use Rattle.saved_session.specs.Valid.{Valid}
 use Rattle.state_text.specs.Readers.{At, at_of, followed, counted, Gives}
 use Rattle.state_text.specs.Reading.{body_at, first_place, ended, compared, sealed, reading}
 use Rattle.state_text.proofs.Results.{value_parts, first_chosen}

@@ -2,13 +2,14 @@
 use Rattle.std.proofs.Common.{◌≡◌, ℕ, ◌^◌, ◌<◌, Bool, true, List, refl, sym, ap, arith}
 use Rattle.std.specs.Prelude.{nat_le, ◌&&◌}
 use Rattle.std.specs.Int.{w8, w16, w32, w64}
-use Rattle.state_text.specs.declared.saved.SavedSend.{SavedSend}
-use Rattle.state_text.specs.Parts.{BreakPart, ExpectPart, WatchPart}
-use Rattle.state_text.specs.Ranges.{is_address, most_breaks, longest_actions, most_expects, longest_text, is_text_length, is_expect_count, most_sends, last_send, has_no_line_feed, any_bytes}
+use Rattle.saved_session.specs.declared.saved.SavedSend.{SavedSend}
+use Rattle.saved_session.specs.Parts.{BreakPart, ExpectPart, WatchPart}
+use Rattle.saved_session.specs.Ranges.{is_address, most_breaks, longest_actions, most_expects, longest_text, is_text_length, is_expect_count, most_sends, last_send, has_no_line_feed}
+use Rattle.state_text.specs.Readers.{any_bytes, number, tested, alike, unbound}
 use Rattle.state_text.specs.Text.{sized_text, listed_text, break_text, expect_text, send_text, watch_text}
-use Rattle.state_text.specs.Valid.{AreActions, IsBreak, IsExpect, IsSend, IsWatch}
-use Rattle.state_text.specs.Readers.{number, tested, alike, unbound}
-use Rattle.state_text.specs.Reading.{actions_at, break_at, behind_break, breaks_at, text_at, expect_at, expects_at, tail_at, send_at, behind_send, sends_at, watch_at}
+use Rattle.saved_session.specs.Valid.{AreActions, IsBreak, IsExpect, IsSend, IsWatch}
+use Rattle.state_text.specs.Reading.{actions_at, break_at, breaks_at, text_at, expect_at, expects_at, tail_at, send_at, sends_at, watch_at}
+use Rattle.saved_session.specs.Order.{behind_break, behind_send}
 use Rattle.state_text.proofs.ReaderLaws.{IsReaderOf, field_is, last_is, recast, retold}
 use Rattle.state_text.proofs.Widths.{Below, Passes, u8_is, u16_is, u32_is, u64_is, range_is, test_is}
 use Rattle.state_text.proofs.Lists.{Always, each_there, each_back, AreListed, listed_is, AreSized, sized_is}

@@ -1,13 +1,13 @@
 -- What holds of state texts, in a reader's words.
 use Rattle.std.specs.Prelude.{◌≡◌, ℕ, ◌^◌, ◌<◌, List, ◌++◌, length, Ok, Err, get_or}
 use Rattle.std.specs.List.{AllByRecursion}
-use Rattle.state_text.specs.declared.saved.SavedCpu.{SavedCpu}
-use Rattle.state_text.specs.declared.saved.SavedEvent.{SavedEvent}
-use Rattle.state_text.specs.declared.saved.SavedSend.{SavedSend}
+use Rattle.saved_session.specs.declared.saved.SavedCpu.{SavedCpu}
+use Rattle.saved_session.specs.declared.saved.SavedEvent.{SavedEvent}
+use Rattle.saved_session.specs.declared.saved.SavedSend.{SavedSend}
 use Rattle.state_text.specs.declared.fault.StateFault.TheVariants.{BadField, Truncated}
-use Rattle.state_text.specs.Parts.{UnitPart, FilePart, BreakPart, ExpectPart, State}
+use Rattle.saved_session.specs.Parts.{UnitPart, FilePart, BreakPart, ExpectPart, State}
 use Rattle.state_text.specs.Text.{text}
-use Rattle.state_text.specs.Valid.{AreBytes, AreWords, Valid, Fits}
+use Rattle.saved_session.specs.Valid.{AreBytes, AreWords, Valid, Fits}
 use Rattle.state_text.specs.Reading.{reading}
 
 -- ---- what every value has by the types of its fields, valid or not

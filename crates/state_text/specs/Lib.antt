@@ -1,12 +1,7 @@
 pub mod Text
 pub mod Reading
-pub mod Ranges
-pub mod Valid
-pub mod Fields
 pub mod Readers
-pub mod Parts
 pub mod Held
 pub mod Pieces
 pub mod Steps
 pub mod Laws
-pub mod SavedWatch

@@ -2,17 +2,18 @@
 use Rattle.std.specs.Prelude.{◌≡◌, ◌⊎◌, ℕ, ◌*◌, ◌<◌, true, false, nat_le, List, [], ◌++◌, length, Result, Ok, Err}
 use Rattle.std.specs.Int.{w8, w16}
 use Rattle.sha2.specs.Hashers.{Holds256}
-use Rattle.state_text.specs.declared.saved.SavedCpu.{SavedCpu}
-use Rattle.state_text.specs.declared.saved.SavedEvent.{SavedEvent}
-use Rattle.state_text.specs.declared.saved.SavedSend.{SavedSend}
+use Rattle.saved_session.specs.declared.saved.SavedCpu.{SavedCpu}
+use Rattle.saved_session.specs.declared.saved.SavedEvent.{SavedEvent}
+use Rattle.saved_session.specs.declared.saved.SavedSend.{SavedSend}
 use Rattle.state_text.specs.declared.fault.StateFault.{StateFault}
 use Rattle.state_text.specs.declared.state_reader.Part.{Part}
 use Rattle.state_text.specs.declared.state_reader.Part.TheVariants.{Head, Version, Cpu, Words, Units, Agenda, FileCount, Files, Port, BreakCount, Breaks, ExpectCount, Expects, Tail, SendCount, Sends, Seal, Faulty}
 use Rattle.state_text.specs.declared.state_reader.StateReader.{StateReader}
-use Rattle.state_text.specs.Parts.{UnitPart, FilePart, BreakPart, ExpectPart, MachinePart, WatchPart, State, state_in}
-use Rattle.state_text.specs.Ranges.{FilePlace, any_count, most_breaks, most_expects, most_sends}
-use Rattle.state_text.specs.Readers.{At, at_of, Reader, followed, ◌>>=◌, gives, number, tested, chain, alike, unbound}
-use Rattle.state_text.specs.Reading.{words_at, version_at, cpu_at, units_at, agenda_at, machine_at, file_at, place_of, behind_file, files_at, break_at, behind_break, expect_at, expects_at, tail_at, send_at, behind_send, sends_at, watch_at, body_at, first_place}
+use Rattle.saved_session.specs.Parts.{UnitPart, FilePart, BreakPart, ExpectPart, MachinePart, WatchPart, State, state_in}
+use Rattle.saved_session.specs.Ranges.{FilePlace, most_breaks, most_expects, most_sends}
+use Rattle.state_text.specs.Readers.{any_count, At, at_of, Reader, followed, ◌>>=◌, gives, number, tested, chain, alike, unbound}
+use Rattle.state_text.specs.Reading.{words_at, version_at, cpu_at, units_at, agenda_at, machine_at, file_at, files_at, break_at, expect_at, expects_at, tail_at, send_at, sends_at, watch_at, body_at, first_place}
+use Rattle.saved_session.specs.Order.{place_of, behind_file, behind_break, behind_send}
 use Rattle.state_text.specs.Held.{at_in, IsBytes}
 
 -- with more bytes at the end

@@ -1,5 +1,5 @@
 -- Readers of fields: each reads from the front of the bytes that are left.
-use Rattle.std.specs.Prelude.{◌≡◌, ℕ, zero, suc, ◌+◌, Bool, List, [], ◌∷◌, length, take, drop, Result, Ok, Err, nat_lt, if◌then◌else◌}
+use Rattle.std.specs.Prelude.{◌≡◌, ℕ, zero, suc, ◌+◌, Bool, true, List, [], ◌∷◌, length, take, drop, Result, Ok, Err, nat_lt, if◌then◌else◌}
 use Rattle.std.specs.Int.{Width, byte_len, from_be_bytes}
 use Rattle.state_text.specs.declared.fault.StateFault.{StateFault}
 use Rattle.state_text.specs.declared.fault.StateFault.TheVariants.{BadField, Truncated, OutOfMemory}
@@ -49,6 +49,13 @@ passed_or fault ok x next = if ok then Ok (x, next) else Err fault
 -- a field that passes a test, or else a fault that may name its place and what it holds
 abbrev pub tested_or : {A : Type 0} → (ℕ → A → StateFault) → (A → Bool) → Reader A → Reader A
 tested_or fault ok reader = λ at. followed (reader at) (λ x next. passed_or (fault at.place x) (ok x) x next)
+
+-- tests that ask nothing
+abbrev pub any_count : ℕ → Bool
+any_count n = true
+
+abbrev pub any_bytes : List ℕ → Bool
+any_bytes bytes = true
 
 -- a field that can hold what it holds
 abbrev pub tested : {A : Type 0} → (A → Bool) → Reader A → Reader A

@@ -1,19 +1,20 @@
 -- What bytes say as a state file: its fields from left to right, each with what it can hold. The first fault is meant.
 -- The digest is compared behind the last field, and a byte behind the end is looked for only where it is right.
-use Rattle.std.specs.Prelude.{ℕ, ◌+◌, ◌*◌, ◌&&◌, ◌==◌, Bool, nat_le, List, [], ◌∷◌, ◌++◌, length, take, Result, Ok, Err, if◌then◌else◌}
+use Rattle.std.specs.Prelude.{ℕ, ◌*◌, ◌&&◌, ◌==◌, Bool, nat_le, List, [], length, take, Result, Ok, Err, if◌then◌else◌}
 use Rattle.std.specs.Str.{bytes_eq, is_utf8}
 use Rattle.std.specs.Int.{w8, w16, w32, w64}
 use Rattle.sha2.specs.Sha256.{sha256}
 use Rattle.unit_trait.specs.declared.kind.Kind.{Kind}
-use Rattle.state_text.specs.declared.saved.SavedCpu.{SavedCpu}
-use Rattle.state_text.specs.declared.saved.SavedEvent.{SavedEvent}
-use Rattle.state_text.specs.declared.saved.SavedSend.{SavedSend}
+use Rattle.saved_session.specs.declared.saved.SavedCpu.{SavedCpu}
+use Rattle.saved_session.specs.declared.saved.SavedEvent.{SavedEvent}
+use Rattle.saved_session.specs.declared.saved.SavedSend.{SavedSend}
 use Rattle.state_text.specs.declared.fault.StateFault.{StateFault}
 use Rattle.state_text.specs.declared.fault.StateFault.TheVariants.{NotState, Version, BadDigest, BadField}
-use Rattle.state_text.specs.Parts.{UnitPart, FilePart, BreakPart, ExpectPart, MachinePart, WatchPart, State}
-use Rattle.state_text.specs.Ranges.{is_flag, is_size, is_address, is_time, is_key_count, kind_at, standard_kinds, is_position, register_count, holds_value, most_events, can_wait, comes_last, FilePlace, takes_file_at, is_next_unit, is_read_only_of, is_name_length, is_file_length, most_breaks, longest_actions, most_expects, longest_text, is_text_length, is_expect_count, most_sends, last_send, has_no_line_feed, any_count, any_bytes}
+use Rattle.saved_session.specs.Parts.{UnitPart, FilePart, BreakPart, ExpectPart, MachinePart, WatchPart, State}
+use Rattle.saved_session.specs.Ranges.{is_flag, is_size, is_address, is_time, is_key_count, kind_at, standard_kinds, is_position, register_count, holds_value, most_events, can_wait, comes_last, FilePlace, takes_file_at, is_next_unit, is_read_only_of, is_name_length, is_file_length, most_breaks, longest_actions, most_expects, longest_text, is_text_length, is_expect_count, most_sends, last_send, has_no_line_feed}
+use Rattle.state_text.specs.Readers.{any_count, any_bytes, At, Reader, followed, gives, counted, number, tested, tested_or, chain, listed, sized, alike, unbound, ◌>>=◌}
+use Rattle.saved_session.specs.Order.{next_number, with_event, place_of, behind_file, behind_break, behind_send}
 use Rattle.state_text.specs.Text.{head, this_version}
-use Rattle.state_text.specs.Readers.{At, Reader, followed, ◌>>=◌, gives, counted, number, tested, tested_or, chain, listed, sized, alike, unbound}
 
 -- ---- the machine
 
@@ -52,9 +53,6 @@ cpu_at = do
 abbrev pub register_value_at : Kind → ℕ → Reader ℕ
 register_value_at kind i = tested (holds_value kind i) (number w32)
 
-abbrev pub next_number : {A : Type 0} → ℕ → A → ℕ
-next_number i x = i + 1
-
 -- as many registers as the kind has
 unfoldable pub registers_at : Kind → Reader (List ℕ)
 registers_at kind = listed w8 (λ n. n == register_count kind) (register_value_at kind) next_number 0
@@ -76,9 +74,6 @@ event_at events = do
   unit ← tested (can_wait events position) (number w8)
   remaining ← tested (comes_last events) (number w32)
   gives (record { position = position; unit = unit; remaining = remaining })
-
-abbrev pub with_event : List SavedEvent → SavedEvent → List SavedEvent
-with_event events e = events ++ e ∷ []
 
 unfoldable pub agenda_at : Reader (List SavedEvent)
 agenda_at = listed w16 (λ n. nat_le n most_events) event_at with_event []
@@ -107,13 +102,6 @@ file_at least = do
   digest ← counted 32
   gives (record { position = position; unit = unit; read_only = read_only; name = name; size = size; digest = digest })
 
-abbrev pub place_of : ℕ → ℕ → FilePlace
-place_of position unit = record { position = position; unit = unit }
-
--- the next file has a later unit
-abbrev pub behind_file : FilePlace → FilePart → FilePlace
-behind_file least f = place_of f.position (f.unit + 1)
-
 unfoldable pub files_at : Reader (List FilePart)
 files_at = listed w8 any_count file_at behind_file (place_of 0 0)
 
@@ -129,10 +117,6 @@ break_at least = do
   count ← number w32
   actions ← actions_at
   gives (record { address = address; count = count; actions = actions })
-
--- the next break has a higher address
-abbrev pub behind_break : ℕ → BreakPart → ℕ
-behind_break least b = b.address + 1
 
 unfoldable pub breaks_at : Reader (List BreakPart)
 breaks_at = listed w16 (λ n. nat_le n most_breaks) break_at behind_break 0
@@ -159,10 +143,6 @@ send_at least = do
   time ← tested (λ t. nat_le least t && nat_le t last_send) (number w64)
   byte ← number w8
   gives (record { time = time; byte = byte })
-
--- the next byte is not sent before it
-abbrev pub behind_send : ℕ → SavedSend → ℕ
-behind_send least s = s.time
 
 unfoldable pub sends_at : Reader (List SavedSend)
 sends_at = listed w16 (λ n. nat_le n most_sends) send_at behind_send 0

@@ -4,10 +4,10 @@ use Rattle.std.specs.Prelude.{ℕ, List, ◌++◌, length, codes}
 use Rattle.std.specs.List.{flat_map}
 use Rattle.std.specs.Int.{Width, w8, w16, w32, w64, to_be_bytes}
 use Rattle.sha2.specs.Sha256.{sha256}
-use Rattle.state_text.specs.declared.saved.SavedCpu.{SavedCpu}
-use Rattle.state_text.specs.declared.saved.SavedEvent.{SavedEvent}
-use Rattle.state_text.specs.declared.saved.SavedSend.{SavedSend}
-use Rattle.state_text.specs.Parts.{UnitPart, FilePart, BreakPart, ExpectPart, MachinePart, WatchPart, State}
+use Rattle.saved_session.specs.declared.saved.SavedCpu.{SavedCpu}
+use Rattle.saved_session.specs.declared.saved.SavedEvent.{SavedEvent}
+use Rattle.saved_session.specs.declared.saved.SavedSend.{SavedSend}
+use Rattle.saved_session.specs.Parts.{UnitPart, FilePart, BreakPart, ExpectPart, MachinePart, WatchPart, State}
 
 unfoldable pub number_text : Width → ℕ → List ℕ
 number_text w n = to_be_bytes w n

@@ -1,7 +1,7 @@
 // Bytes that are read from the front, field by field.
 ghost use Rattle.std.specs.Prelude.{◌≡◌, ◌+◌, ◌<◌, ◌^◌, ◌==◌, nat_le, length, IfOk};
 ghost use Rattle.std.specs.Int.{w8, w16, w32, w64};
-ghost use Rattle.state_text.specs.Ranges.{is_flag};
+ghost use Rattle.saved_session.specs.Ranges.{is_flag};
 ghost use Rattle.state_text.specs.Held.{IsBytes};
 ghost use Rattle.state_text.specs.Readers.{At, Reads, at_of, number, counted, tested};
 

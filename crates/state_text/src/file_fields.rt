@@ -3,15 +3,15 @@ ghost use Rattle.std.specs.Prelude.{◌≡◌, ◌<◌, ◌&&◌, IfOk, IsTrue, 
 ghost use Rattle.std.specs.Str.{is_utf8};
 ghost use Rattle.std.specs.String.{string_bytes};
 ghost use Rattle.std.specs.Int.{w8, w16, w64};
-ghost use Rattle.state_text.specs.Parts.{file_in};
-ghost use Rattle.state_text.specs.Ranges.{kind_at, takes_file_at, is_next_unit, is_read_only_of, is_name_length, is_file_length};
+ghost use Rattle.saved_session.specs.Parts.{file_in};
+ghost use Rattle.saved_session.specs.Ranges.{kind_at, takes_file_at, is_next_unit, is_read_only_of, is_name_length, is_file_length};
 ghost use Rattle.state_text.specs.Readers.{Reads, counted, number, tested, chain};
-ghost use Rattle.state_text.specs.Reading.{name_at, file_at, place_of, behind_file, files_at};
+ghost use Rattle.state_text.specs.Reading.{name_at, file_at, files_at};
+ghost use Rattle.saved_session.specs.Order.{place_of, behind_file};
 
 use crate::cursor::Cursor;
 use crate::fault::StateFault;
-use crate::kinds::{kind_at, longest_file_of, only_writes};
-use crate::saved::SavedFile;
+use saved_session::{SavedFile, kind_at, longest_file_of, only_writes};
 use std::alloc::{AllocError, Global};
 use std::str::from_utf8;
 use unit_trait::{Kind, takes_file, units_of};

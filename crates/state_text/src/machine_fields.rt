@@ -2,16 +2,18 @@
 ghost use Rattle.std.specs.Prelude.{◌≡◌, ◌&&◌, ◌==◌, ◌*◌, nat_le, nat_lt, map, []};
 ghost use Rattle.std.specs.List.{list_any};
 ghost use Rattle.std.specs.Int.{w8, w16, w32, w64};
-ghost use Rattle.state_text.specs.Parts.{unit_in};
-ghost use Rattle.state_text.specs.Fields.{machine_in};
-ghost use Rattle.state_text.specs.Ranges.{is_size, is_address, is_time, is_key_count, standard_kinds, is_position, register_count, can_wait, comes_last, is_event_of, is_later, kind_at};
+ghost use Rattle.saved_session.specs.Parts.{unit_in};
+ghost use Rattle.saved_session.specs.Fields.{machine_in};
+ghost use Rattle.saved_session.specs.Ranges.{is_size, is_address, is_time, is_key_count, standard_kinds, is_position, register_count, can_wait, comes_last, is_event_of, is_later, kind_at};
 ghost use Rattle.state_text.specs.Readers.{Reads, number, tested, chain};
-ghost use Rattle.state_text.specs.Reading.{words_at, cpu_at, register_value_at, next_number, registers_at, unit_at, units_at, event_at, with_event, agenda_at, machine_at};
+ghost use Rattle.state_text.specs.Reading.{words_at, cpu_at, register_value_at, registers_at, unit_at, units_at, event_at, agenda_at, machine_at};
+ghost use Rattle.saved_session.specs.Order.{next_number, with_event};
 
 use crate::cursor::Cursor;
 use crate::fault::StateFault;
-use crate::kinds::{holds_value, kind_at, register_count};
-use crate::saved::{SavedCpu, SavedEvent, SavedUnit};
+use saved_session::{
+    MachineFields, SavedCpu, SavedEvent, SavedUnit, holds_value, kind_at, register_count,
+};
 use std::alloc::Global;
 use unit_trait::{Kind, units_of};
 
@@ -20,15 +22,6 @@ const UNITS: u8 = 10;
 
 /// How many events wait at most.
 const MOST_EVENTS: u16 = 81;
-
-/// The machine as it is read.
-#[derive(Drop)]
-pub struct MachineFields {
-    pub cpu: SavedCpu,
-    pub words: Vec<u16>,
-    pub units: Vec<SavedUnit>,
-    pub agenda: Vec<SavedEvent>,
-}
 
 // The size of memory in units of 1024 words.
 fn size(cursor: &mut Cursor) -> Result<u8, StateFault>

@@ -1,17 +1,16 @@
-ghost use Rattle.std.specs.Prelude.{◌≡◌, ◌≤◌, IfOk, Ok, length, map};
-ghost use Rattle.state_text.specs.Fields.{machine_in, watch_in};
-ghost use Rattle.state_text.specs.Parts.{State, file_in, state_in};
+ghost use Rattle.std.specs.Prelude.{◌≡◌, ◌≤◌, IfOk, Ok, length};
+ghost use Rattle.saved_session.specs.Parts.{State, state_in};
 ghost use Rattle.state_text.specs.Text.{text};
-ghost use Rattle.state_text.specs.Valid.{Valid, Fits};
+ghost use Rattle.saved_session.specs.Valid.{Valid, Fits};
 ghost use Rattle.state_text.specs.Readers.{Reads, Gives};
 ghost use Rattle.state_text.specs.Reading.{begins, head_at, version_at, body_at, sealed, reading};
 
 use crate::cursor::Cursor;
 use crate::fault::StateFault;
 use crate::file_fields::{digest, files};
-use crate::machine_fields::{MachineFields, machine};
-use crate::saved::{Saved, SavedFile};
-use crate::watch_fields::{WatchFields, watch};
+use crate::machine_fields::machine;
+use crate::watch_fields::watch;
+use saved_session::{Saved, joined};
 use sha2::{Digest, Sha256};
 use std::alloc::Global;
 
@@ -46,29 +45,6 @@ pub fn version(cursor: &mut Cursor) -> Result<u16, StateFault>
         return Err(StateFault::Version(version));
     }
     Ok(version)
-}
-
-/// All parts of a state, as one value.
-pub fn joined(
-    machine: MachineFields,
-    attachments: Vec<SavedFile>,
-    port: u16,
-    watch: WatchFields,
-) -> Saved
-    ensures { state_in result ≡ record { machine = machine_in machine; files = map file_in attachments.items; port = port; watch = watch_in watch } }
-{
-    Saved {
-        cpu: machine.cpu,
-        words: machine.words,
-        units: machine.units,
-        agenda: machine.agenda,
-        attachments,
-        port,
-        breaks: watch.breaks,
-        expects: watch.expects,
-        tail: watch.tail,
-        sends: watch.sends,
-    }
 }
 
 // All fields but the digest.

@@ -2,9 +2,9 @@
 ghost use Rattle.std.specs.Prelude.{◌≡◌, ◌≤◌, ◌<◌, ◌*◌, ◌^◌, ◌++◌, ℕ, List, [], Bool, true, false, Ok, Err, IfOk, IsErr, OnErr, OnOk, length};
 ghost use Rattle.state_text.specs.declared.state_reader.Part.{Part};
 ghost use Rattle.state_text.specs.declared.fault.StateFault.TheVariants.{OutOfMemory};
-ghost use Rattle.state_text.specs.Parts.{State, state_in};
+ghost use Rattle.saved_session.specs.Parts.{State, state_in};
 ghost use Rattle.state_text.specs.Text.{text};
-ghost use Rattle.state_text.specs.Valid.{Valid, Fits};
+ghost use Rattle.saved_session.specs.Valid.{Valid, Fits};
 ghost use Rattle.sha2.specs.Hashers.{Holds256};
 ghost use Rattle.sha2.specs.Sha256.{sha256};
 ghost use Rattle.state_text.specs.Readers.{Gives, followed, counted};
@@ -16,11 +16,11 @@ ghost use Rattle.state_text.specs.Steps.{IsList, Stops, StepsTo, Settles, Takes,
 use crate::fault::StateFault;
 use crate::file_fields::digest;
 use crate::pending::Pending;
-use crate::saved::{Saved, SavedCpu};
 use crate::trying::{
     try_agenda, try_break, try_break_count, try_cpu, try_expect, try_expect_count, try_file,
     try_file_count, try_head, try_send, try_send_count, try_tail, try_units, try_version, try_word,
 };
+use saved_session::{Saved, SavedCpu};
 use std::alloc::{AllocError, Global};
 
 /// The part of the text that is read next, or the fault that ended the reading.

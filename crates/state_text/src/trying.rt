@@ -1,10 +1,11 @@
 // Single fields and records of a state file, read from the bytes that have come: each with the place behind it.
 ghost use Rattle.std.specs.Prelude.{◌<◌, ◌^◌, IfOk, nat_le, map};
 ghost use Rattle.std.specs.Int.{w8, w16};
-ghost use Rattle.state_text.specs.Parts.{unit_in, file_in, break_in, expect_in};
-ghost use Rattle.state_text.specs.Ranges.{any_count, most_breaks, most_expects, most_sends};
-ghost use Rattle.state_text.specs.Readers.{number, tested};
-ghost use Rattle.state_text.specs.Reading.{head_at, version_at, cpu_at, units_at, agenda_at, file_at, place_of, break_at, expect_at, tail_at, send_at};
+ghost use Rattle.saved_session.specs.Parts.{unit_in, file_in, break_in, expect_in};
+ghost use Rattle.saved_session.specs.Ranges.{most_breaks, most_expects, most_sends};
+ghost use Rattle.state_text.specs.Readers.{any_count, number, tested};
+ghost use Rattle.state_text.specs.Reading.{head_at, version_at, cpu_at, units_at, agenda_at, file_at, break_at, expect_at, tail_at, send_at};
+ghost use Rattle.saved_session.specs.Order.{place_of};
 ghost use Rattle.state_text.specs.Steps.{Finds};
 
 use crate::fault::StateFault;
@@ -12,10 +13,10 @@ use crate::file_fields::file;
 use crate::machine_fields::{agenda, cpu, units};
 use crate::pending::Pending;
 use crate::reading::{head, version};
-use crate::saved::{
+use crate::watch_fields::{MOST_BREAKS, MOST_EXPECTS, MOST_SENDS, expect, next_break, send, tail};
+use saved_session::{
     SavedBreak, SavedCpu, SavedEvent, SavedExpect, SavedFile, SavedSend, SavedUnit,
 };
-use crate::watch_fields::{MOST_BREAKS, MOST_EXPECTS, MOST_SENDS, expect, next_break, send, tail};
 use std::alloc::Global;
 
 /// The first bytes.

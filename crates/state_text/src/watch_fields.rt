@@ -1,15 +1,16 @@
 // The fields of what a run watches: breaks, texts that are waited for, the printed tail, and bytes that are sent.
 ghost use Rattle.std.specs.Prelude.{◌≡◌, ◌<◌, ◌^◌, ◌&&◌, IfOk, nat_le, map};
 ghost use Rattle.std.specs.Int.{w8, w16, w32, w64};
-ghost use Rattle.state_text.specs.Fields.{watch_in};
-ghost use Rattle.state_text.specs.Parts.{break_in, expect_in};
-ghost use Rattle.state_text.specs.Ranges.{is_address, is_text_length, is_expect_count, last_send};
+ghost use Rattle.saved_session.specs.Fields.{watch_in};
+ghost use Rattle.saved_session.specs.Parts.{break_in, expect_in};
+ghost use Rattle.saved_session.specs.Ranges.{is_address, is_text_length, is_expect_count, last_send};
 ghost use Rattle.state_text.specs.Readers.{Reads, number, tested, chain, alike, unbound};
-ghost use Rattle.state_text.specs.Reading.{actions_at, break_at, behind_break, breaks_at, text_at, expect_at, expects_at, tail_at, send_at, behind_send, sends_at, watch_at};
+ghost use Rattle.state_text.specs.Reading.{actions_at, break_at, breaks_at, text_at, expect_at, expects_at, tail_at, send_at, sends_at, watch_at};
+ghost use Rattle.saved_session.specs.Order.{behind_break, behind_send};
 
 use crate::cursor::Cursor;
 use crate::fault::StateFault;
-use crate::saved::{SavedBreak, SavedExpect, SavedSend};
+use saved_session::{SavedBreak, SavedExpect, SavedSend, WatchFields};
 use std::alloc::Global;
 
 /// How many breaks there are at most.
@@ -29,15 +30,6 @@ pub const MOST_SENDS: u16 = 4096;
 
 /// The last time at which a byte is sent.
 const LAST_SEND: u64 = 1 << 62;
-
-/// What a run watches, as it is read.
-#[derive(Drop)]
-pub struct WatchFields {
-    pub breaks: Vec<SavedBreak>,
-    pub expects: Vec<SavedExpect>,
-    pub tail: Vec<u8>,
-    pub sends: Vec<SavedSend>,
-}
 
 // One line of actions.
 #[tactic(auto, unfolding(crate::specs::Reading::actions_at))]

@@ -1,14 +1,14 @@
 ghost use Rattle.std.specs.Prelude.{◌≡◌, ◌++◌, ◌<◌, ◌^◌, length, map, OnOk, IfOk};
 ghost use Rattle.std.specs.List.{flat_map};
 ghost use Rattle.std.specs.Int.{w8, w16, w32, w64};
-ghost use Rattle.state_text.specs.Parts.{unit_in, file_in, break_in, expect_in, state_in};
+ghost use Rattle.saved_session.specs.Parts.{unit_in, file_in, break_in, expect_in, state_in};
 ghost use Rattle.state_text.specs.Text.{number_text, word_text, register_text, sized_text, listed_text, accumulators_text, switches_text, times_text, cpu_text, unit_text, event_text, machine_text, file_text, break_text, expect_text, send_text, watch_text, body, text};
-ghost use Rattle.state_text.specs.Valid.{UnitsFit, FilesFit, BreaksFit, ExpectsFit, ExpectFits, MachineFits, WatchFits, Fits};
+ghost use Rattle.saved_session.specs.Valid.{UnitsFit, FilesFit, BreaksFit, ExpectsFit, ExpectFits, MachineFits, WatchFits, Fits};
 
-use crate::saved::{
+use byteorder::{BigEndian, ByteOrder};
+use saved_session::{
     Saved, SavedBreak, SavedCpu, SavedEvent, SavedExpect, SavedFile, SavedSend, SavedUnit,
 };
-use byteorder::{BigEndian, ByteOrder};
 use sha2::{Digest, Sha256};
 use std::alloc::{AllocError, Global};
 

@@ -1,5 +1,5 @@
 use Rattle.unit_files.specs.Open.{AllOpen}
-use Rattle.state_file.specs.SavedValid.{AreStandard}
+use Rattle.state_transfer.specs.SavedValid.{AreStandard}
 use Rattle.command_tests.proofs.rows.all.Given as goal
 
 abbrev pub invariant-loop-row : goal.invariant-loop-row

@@ -10,7 +10,7 @@ use Rattle.file_commands.proofs.OwnFiles.{own-both, all-own}
 use Rattle.nova_machine.specs.Machine.{MachineState}
 use Rattle.file_commands.proofs.Adding.{counted-none}
 use Rattle.file_traits.specs.Lists.{NamedBytes}
-use Rattle.state_file.specs.SavedValid.{AreStandard}
+use Rattle.state_transfer.specs.SavedValid.{AreStandard}
 use Rattle.command_session.specs.Live.{CommandState, beyond}
 use Rattle.scp_script.specs.Loop.{AreKept}
 use Rattle.nova_top.specs.declared.word_files.Refusal.{Refusal}

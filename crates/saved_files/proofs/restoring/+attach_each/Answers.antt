@@ -4,7 +4,7 @@ use Rattle.unit_trait.specs.declared.kind.UnitName.{UnitName}
 use Rattle.unit_files.specs.Attachments.{Attachment, attachments_of, file_place, is_disk}
 use Rattle.unit_files.specs.Buffer.{Buffer}
 use Rattle.unit_files.specs.Acts.{detached}
-use Rattle.state_text.specs.Parts.{file_in}
+use Rattle.saved_session.specs.Parts.{file_in}
 use Rattle.saved_files.specs.Restoring.{files_in, unit_of, attachment_of}
 use Rattle.saved_files.specs.RestoringOne.{CanAttach, IsFree, IsClean}
 use Rattle.saved_files.proofs.Attaching.{set-back}

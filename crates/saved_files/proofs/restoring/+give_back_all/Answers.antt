@@ -4,7 +4,7 @@ use Rattle.unit_trait.specs.declared.kind.UnitName.{UnitName}
 use Rattle.unit_files.specs.Attachments.{attachments_of, attachment_at}
 use Rattle.unit_files.specs.Buffer.{Buffer}
 use Rattle.saved_files.specs.GivingBack.{IsHeldIn}
-use Rattle.state_text.specs.Parts.{file_in}
+use Rattle.saved_session.specs.Parts.{file_in}
 use Rattle.saved_files.specs.Restoring.{files_in}
 use Rattle.saved_files.specs.RestoringOne.{CanAttach}
 use Rattle.saved_files.proofs.GivingBackLemmas.{still-held, copy-clean}

@@ -5,7 +5,7 @@ use Rattle.unit_files.specs.Attachments.{Held, attachments_of, no_files}
 use Rattle.unit_files.specs.Buffer.{AttachedFiles, Buffer, no_buffer, nothing_attached}
 use Rattle.unit_files.specs.Open.{Around}
 use Rattle.saved_files.specs.declared.file_faults.RestoreFault.{RestoreFault}
-use Rattle.state_text.specs.Reading.{place_of}
+use Rattle.saved_session.specs.Order.{place_of}
 use Rattle.saved_files.specs.Restoring.{files_in}
 use Rattle.saved_files.proofs.Together.{all-free, all-clean, nothing-held, only-base, around-nothing}
 use Rattle.saved_files.proofs.ValidFiles.{each-can, all-apart}

@@ -3,7 +3,7 @@ use Rattle.unit_trait.specs.declared.kind.UnitName.{UnitName}
 use Rattle.unit_files.specs.Attachments.{attachments_of, is_disk}
 use Rattle.unit_files.specs.Acts.{NotThere, TooLong, CallFailed}
 use Rattle.unit_files.specs.Answers.{failure_in}
-use Rattle.state_text.specs.Parts.{file_in}
+use Rattle.saved_session.specs.Parts.{file_in}
 use Rattle.saved_files.specs.Restoring.{is_only_read}
 use Rattle.saved_files.proofs.Attaching.{same-files, said-of, bytes-taken}
 use Rattle.saved_files.proofs.RestoreCounts.{refused-opened}

@@ -7,7 +7,7 @@ use Rattle.unit_files.specs.Acts.{detached}
 use Rattle.unit_files.specs.Buffer.{AttachedFiles}
 use Rattle.unit_trait.specs.declared.kind.UnitName.{UnitName}
 use Rattle.saved_files.specs.declared.file_faults.RestoreFault.{RestoreFault}
-use Rattle.state_text.specs.Parts.{FilePart, file_in}
+use Rattle.saved_session.specs.Parts.{FilePart, file_in}
 use Rattle.saved_files.specs.Restoring.{unit_of, with_file, attachment_of, refusal_of}
 use Rattle.saved_files.specs.RestoringOne.{CanAttach, CompareCalls, Compares, SaysOne, failure_of, Attaches}
 use Rattle.saved_files.proofs.Attaching.{forced, free-first, one-compared, set-back}

@@ -2,7 +2,7 @@ use Rattle.std.proofs.Common.{◌≡◌, ◌≤◌, Option, List, drop, length, 
 use Rattle.std.specs.List.{AllByRecursion}
 use Rattle.unit_files.specs.Attachments.{Held, attachments_of, file_units}
 use Rattle.unit_files.specs.Buffer.{AttachedFiles}
-use Rattle.state_text.specs.Parts.{FilePart, file_in}
+use Rattle.saved_session.specs.Parts.{FilePart, file_in}
 use Rattle.saved_files.specs.Restoring.{files_in}
 use Rattle.saved_files.specs.RestoringOne.{AreApart}
 use Rattle.saved_files.specs.Saving.{file_places, saved_files}

@@ -3,7 +3,7 @@ use Rattle.file_traits.specs.Lists.{bytes_of}
 use Rattle.unit_trait.specs.declared.kind.UnitName.{UnitName}
 use Rattle.unit_files.specs.Attachments.{attachments_of, attachment_at, is_disk}
 use Rattle.unit_files.specs.Digests.{DigestSaid}
-use Rattle.state_text.specs.Parts.{file_in}
+use Rattle.saved_session.specs.Parts.{file_in}
 use Rattle.saved_files.specs.Restoring.{attachment_of}
 use Rattle.saved_files.specs.Saving.{undigested}
 use Rattle.saved_files.proofs.SavingLaws.{digested-so}

@@ -7,7 +7,7 @@ use Rattle.host_lines.specs.Traffic.{Answer}
 use Rattle.host_lines.specs.Told.{IsFirst, record_in}
 use Rattle.telnet_lines.specs.Many.{AreApart}
 use Rattle.nova_machine.specs.Comes.{output}
-use Rattle.state_file.specs.SavedValid.{AreStandard}
+use Rattle.state_transfer.specs.SavedValid.{AreStandard}
 use Rattle.command_session.specs.Live.{beyond}
 use Rattle.command_session.specs.LinesLeft.{LinesLeft}
 use Rattle.scp_script.specs.Session.{spent_more}

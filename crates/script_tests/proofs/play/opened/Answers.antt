@@ -5,7 +5,7 @@ use Rattle.unit_trait.specs.Row.{initial_unit}
 use Rattle.unit_list.specs.Bus.{kinds_of}
 use Rattle.unit_list.proofs.Resets.{reset-kinds}
 use Rattle.nova_machine.specs.Machine.{MachineState, new_machine, reset_machine, reset_devices}
-use Rattle.state_file.specs.SavedValid.{AreStandard}
+use Rattle.state_transfer.specs.SavedValid.{AreStandard}
 use Rattle.command_session.specs.Live.{CommandState}
 use Rattle.script_tests.proofs.play.opened.Goals as goal
 

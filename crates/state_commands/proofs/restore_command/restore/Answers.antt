@@ -9,11 +9,11 @@ use Rattle.whole_files.specs.declared.whole.WholeFault.{WholeFault}
 use Rattle.nova_machine.specs.Machine.{MachineState}
 use Rattle.nova_machine.specs.Seen.{seen, beside}
 use Rattle.unit_files.specs.Attachments.{no_attachments}
-use Rattle.state_file.specs.Listening.{wants_port, LeavesLines}
-use Rattle.state_text.specs.Parts.{state_in}
-use Rattle.state_file.specs.Putting.{with_machine_of}
+use Rattle.state_transfer.specs.Listening.{wants_port, LeavesLines}
+use Rattle.saved_session.specs.Parts.{state_in}
+use Rattle.state_transfer.specs.Putting.{with_machine_of}
 use Rattle.telnet_lines.specs.Line.{LineOf}
-use Rattle.state_file.specs.PutBack.{put_back}
+use Rattle.state_transfer.specs.PutBack.{put_back}
 use Rattle.unit_trait.specs.declared.kind.UnitName.{UnitName}
 use Rattle.saved_files.specs.Restoring.{FileRefusal, claim_in, first_refused, SaysFirst}
 use Rattle.command_session.specs.declared.next.Next.TheVariants.{Go}

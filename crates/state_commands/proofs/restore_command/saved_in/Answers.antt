@@ -1,9 +1,9 @@
 use Rattle.std.proofs.Common.{◌≡◌, List, ℕ, IfOk, Result, Ok, Err}
-use Rattle.state_text.specs.declared.saved.Saved.{Saved}
+use Rattle.saved_session.specs.declared.saved.Saved.{Saved}
 use Rattle.state_text.specs.declared.fault.StateFault.{StateFault}
-use Rattle.state_text.specs.Parts.{state_in}
+use Rattle.saved_session.specs.Parts.{state_in}
 use Rattle.state_text.specs.Text.{text}
-use Rattle.state_text.specs.Valid.{Valid}
+use Rattle.saved_session.specs.Valid.{Valid}
 use Rattle.state_commands.proofs.restore_command.saved_in.Goals as goal
 
 only-valid : (result : Result Saved StateFault) (bytes : List ℕ) → IfOk result (λ s. Valid (state_in s) × (bytes ≡ text (state_in s))) → IfOk result (λ s. Valid (state_in s))

@@ -6,7 +6,7 @@ use Rattle.unit_list.specs.Bus.{kinds_of}
 use Rattle.unit_list.proofs.Resets.{reset-kinds}
 use Rattle.unit_files.specs.Buffer.{nothing_attached}
 use Rattle.nova_machine.specs.Machine.{MachineState, attached_files, new_machine, reset_devices, reset_machine}
-use Rattle.state_file.specs.SavedValid.{AreStandard}
+use Rattle.state_transfer.specs.SavedValid.{AreStandard}
 use Rattle.state_tests.proofs.session.plays_on.Goals as goal
 
 -- a new machine with the ten units is a standard one, and has no files

@@ -1,8 +1,9 @@
 use Rattle.std.proofs.Common.{◌≡◌, ◌-◌}
 use Rattle.std.specs.Prelude.{map}
-use Rattle.state_text.specs.Parts.{file_in}
+use Rattle.saved_session.specs.Parts.{file_in}
 use Rattle.state_text.specs.Readers.{chain}
-use Rattle.state_text.specs.Reading.{file_at, behind_file, place_of}
+use Rattle.state_text.specs.Reading.{file_at}
+use Rattle.saved_session.specs.Order.{behind_file, place_of}
 use Rattle.state_text.proofs.Loops.{with_front}
 use Rattle.state_text.proofs.file_fields.files_of.Given as goal
 

@@ -1,7 +1,8 @@
 use Rattle.std.proofs.Common.{[]}
 use Rattle.std.proofs.lemmas.Result.{err_from_is_err_and}
 use Rattle.state_text.specs.Readers.{chain}
-use Rattle.state_text.specs.Reading.{event_at, with_event}
+use Rattle.state_text.specs.Reading.{event_at}
+use Rattle.saved_session.specs.Order.{with_event}
 use Rattle.state_text.proofs.Loops.{goes_on, fails}
 use Rattle.state_text.proofs.machine_fields.events_of.Goals as goal
 

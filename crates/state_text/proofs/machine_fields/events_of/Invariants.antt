@@ -1,6 +1,7 @@
 use Rattle.std.proofs.Common.{◌≡◌, ◌-◌, []}
 use Rattle.state_text.specs.Readers.{chain}
-use Rattle.state_text.specs.Reading.{event_at, with_event}
+use Rattle.state_text.specs.Reading.{event_at}
+use Rattle.saved_session.specs.Order.{with_event}
 use Rattle.state_text.proofs.Loops.{with_front}
 use Rattle.state_text.proofs.machine_fields.events_of.Given as goal
 

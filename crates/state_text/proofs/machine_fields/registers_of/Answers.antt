@@ -1,6 +1,7 @@
 use Rattle.std.proofs.lemmas.Result.{err_from_is_err_and}
 use Rattle.state_text.specs.Readers.{chain}
-use Rattle.state_text.specs.Reading.{register_value_at, next_number}
+use Rattle.state_text.specs.Reading.{register_value_at}
+use Rattle.saved_session.specs.Order.{next_number}
 use Rattle.state_text.proofs.Loops.{goes_on, fails}
 use Rattle.state_text.proofs.machine_fields.registers_of.Goals as goal
 

@@ -2,9 +2,10 @@ use Rattle.std.proofs.Common.{◌≡◌, ◌++◌, ◌∷◌, []}
 use Rattle.std.proofs.lemmas.Result.{err_from_is_err_and}
 use Rattle.std.specs.Prelude.{map}
 use Rattle.std.proofs.lemmas.List.{map_push}
-use Rattle.state_text.specs.Parts.{unit_in}
+use Rattle.saved_session.specs.Parts.{unit_in}
 use Rattle.state_text.specs.Readers.{chain}
-use Rattle.state_text.specs.Reading.{unit_at, next_number}
+use Rattle.state_text.specs.Reading.{unit_at}
+use Rattle.saved_session.specs.Order.{next_number}
 use Rattle.state_text.proofs.Loops.{goes_on, fails}
 use Rattle.state_text.proofs.machine_fields.units_of_count.Goals as goal
 

@@ -1,8 +1,9 @@
 use Rattle.std.proofs.Common.{◌≡◌, ◌-◌}
 use Rattle.std.specs.Prelude.{map}
-use Rattle.state_text.specs.Parts.{unit_in}
+use Rattle.saved_session.specs.Parts.{unit_in}
 use Rattle.state_text.specs.Readers.{chain}
-use Rattle.state_text.specs.Reading.{unit_at, next_number}
+use Rattle.state_text.specs.Reading.{unit_at}
+use Rattle.saved_session.specs.Order.{next_number}
 use Rattle.state_text.proofs.Loops.{with_front}
 use Rattle.state_text.proofs.machine_fields.units_of_count.Given as goal
 

@@ -1,5 +1,5 @@
 use Rattle.std.proofs.Common.{ap, subst, ◌∙◌, arith}
-use Rattle.state_text.specs.Parts.{state_in}
+use Rattle.saved_session.specs.Parts.{state_in}
 use Rattle.state_text.specs.Readers.{Gives}
 use Rattle.state_text.specs.Reading.{reading}
 use Rattle.state_text.proofs.SealLaws.{reading_again, is_found}

@@ -1,5 +1,5 @@
 use Rattle.std.proofs.Common.{ap, sym, ◌∙◌, arith}
-use Rattle.state_text.specs.Parts.{state_in}
+use Rattle.saved_session.specs.Parts.{state_in}
 use Rattle.state_text.specs.Reading.{body_at}
 use Rattle.state_text.proofs.SealLaws.{is_within}
 use Rattle.state_text.proofs.reading.whole.Goals as goal

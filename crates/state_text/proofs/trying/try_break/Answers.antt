@@ -1,4 +1,4 @@
-use Rattle.state_text.specs.Parts.{break_in}
+use Rattle.saved_session.specs.Parts.{break_in}
 use Rattle.state_text.proofs.WatchLaws.{break_is}
 use Rattle.state_text.proofs.PieceLaws.{found}
 use Rattle.state_text.proofs.trying.try_break.Goals as goal

@@ -1,4 +1,4 @@
-use Rattle.state_text.specs.Parts.{expect_in}
+use Rattle.saved_session.specs.Parts.{expect_in}
 use Rattle.state_text.proofs.WatchLaws.{expect_is}
 use Rattle.state_text.proofs.PieceLaws.{found}
 use Rattle.state_text.proofs.trying.try_expect.Goals as goal

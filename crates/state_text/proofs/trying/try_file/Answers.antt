@@ -1,5 +1,5 @@
-use Rattle.state_text.specs.Parts.{file_in}
-use Rattle.state_text.specs.Reading.{place_of}
+use Rattle.saved_session.specs.Parts.{file_in}
+use Rattle.saved_session.specs.Order.{place_of}
 use Rattle.state_text.proofs.FileLaws.{file_is}
 use Rattle.state_text.proofs.PieceLaws.{found}
 use Rattle.state_text.proofs.trying.try_file.Goals as goal

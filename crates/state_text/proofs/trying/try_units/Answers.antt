@@ -1,5 +1,5 @@
 use Rattle.std.proofs.Common.{map}
-use Rattle.state_text.specs.Parts.{unit_in}
+use Rattle.saved_session.specs.Parts.{unit_in}
 use Rattle.state_text.proofs.MachineLaws.{units_is}
 use Rattle.state_text.proofs.PieceLaws.{found}
 use Rattle.state_text.proofs.trying.try_units.Goals as goal

@@ -1,8 +1,9 @@
 use Rattle.std.proofs.Common.{◌≡◌, ◌-◌}
 use Rattle.std.specs.Prelude.{map}
-use Rattle.state_text.specs.Parts.{break_in}
+use Rattle.saved_session.specs.Parts.{break_in}
 use Rattle.state_text.specs.Readers.{chain}
-use Rattle.state_text.specs.Reading.{break_at, behind_break}
+use Rattle.state_text.specs.Reading.{break_at}
+use Rattle.saved_session.specs.Order.{behind_break}
 use Rattle.state_text.proofs.Loops.{with_front}
 use Rattle.state_text.proofs.watch_fields.breaks_of.Given as goal
 

@@ -2,7 +2,7 @@ use Rattle.std.proofs.Common.{◌≡◌, ◌++◌, ◌∷◌, []}
 use Rattle.std.proofs.lemmas.Result.{err_from_is_err_and}
 use Rattle.std.specs.Prelude.{map}
 use Rattle.std.proofs.lemmas.List.{map_push}
-use Rattle.state_text.specs.Parts.{expect_in}
+use Rattle.saved_session.specs.Parts.{expect_in}
 use Rattle.state_text.specs.Readers.{chain, alike, unbound}
 use Rattle.state_text.specs.Reading.{expect_at}
 use Rattle.state_text.proofs.Loops.{goes_on, fails}

@@ -1,6 +1,6 @@
 use Rattle.std.proofs.Common.{◌≡◌, ◌-◌}
 use Rattle.std.specs.Prelude.{map}
-use Rattle.state_text.specs.Parts.{expect_in}
+use Rattle.saved_session.specs.Parts.{expect_in}
 use Rattle.state_text.specs.Readers.{chain, alike, unbound}
 use Rattle.state_text.specs.Reading.{expect_at}
 use Rattle.state_text.proofs.Loops.{with_front}

@@ -1,6 +1,7 @@
 use Rattle.std.proofs.lemmas.Result.{err_from_is_err_and}
 use Rattle.state_text.specs.Readers.{chain}
-use Rattle.state_text.specs.Reading.{send_at, behind_send}
+use Rattle.state_text.specs.Reading.{send_at}
+use Rattle.saved_session.specs.Order.{behind_send}
 use Rattle.state_text.proofs.Loops.{goes_on, fails}
 use Rattle.state_text.proofs.watch_fields.sends_of.Goals as goal
 

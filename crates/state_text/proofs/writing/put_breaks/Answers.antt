@@ -2,9 +2,9 @@ use Rattle.std.proofs.Common.{◌<◌, ◌^◌, length, List, [], ◌∷◌}
 use Rattle.std.specs.Prelude.{map}
 use Rattle.std.specs.List.{AllByRecursion}
 use Rattle.std.proofs.lemmas.List.Elements.{All-from_recursion}
-use Rattle.state_text.specs.declared.saved.SavedBreak.{SavedBreak}
-use Rattle.state_text.specs.Parts.{break_in}
-use Rattle.state_text.specs.Valid.{BreaksFit}
+use Rattle.saved_session.specs.declared.saved.SavedBreak.{SavedBreak}
+use Rattle.saved_session.specs.Parts.{break_in}
+use Rattle.saved_session.specs.Valid.{BreaksFit}
 use Rattle.state_text.proofs.writing.put_breaks.Goals as goal
 
 each_fits : (breaks : List SavedBreak) → BreaksFit (map break_in breaks) → AllByRecursion (λ (b : SavedBreak). length b.actions.items < 2 ^ 16) breaks

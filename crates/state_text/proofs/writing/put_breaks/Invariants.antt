@@ -2,7 +2,7 @@ use Rattle.std.proofs.Common.{◌≡◌, ◌++◌, length, take}
 use Rattle.std.specs.Prelude.{map}
 use Rattle.std.specs.List.{flat_map}
 use Rattle.std.specs.Int.{w16}
-use Rattle.state_text.specs.Parts.{break_in}
+use Rattle.saved_session.specs.Parts.{break_in}
 use Rattle.state_text.specs.Text.{number_text, break_text}
 use Rattle.state_text.proofs.writing.put_breaks.Given as goal
 

@@ -2,9 +2,9 @@ use Rattle.std.proofs.Common.{List, [], ◌∷◌}
 use Rattle.std.specs.Prelude.{map}
 use Rattle.std.specs.List.{AllByRecursion}
 use Rattle.std.proofs.lemmas.List.Elements.{All-from_recursion}
-use Rattle.state_text.specs.declared.saved.SavedExpect.{SavedExpect}
-use Rattle.state_text.specs.Parts.{expect_in}
-use Rattle.state_text.specs.Valid.{ExpectsFit, ExpectFits}
+use Rattle.saved_session.specs.declared.saved.SavedExpect.{SavedExpect}
+use Rattle.saved_session.specs.Parts.{expect_in}
+use Rattle.saved_session.specs.Valid.{ExpectsFit, ExpectFits}
 use Rattle.state_text.proofs.writing.put_expects.Goals as goal
 
 each_fits : (expects : List SavedExpect) → ExpectsFit (map expect_in expects) → AllByRecursion (λ (e : SavedExpect). ExpectFits (expect_in e)) expects

@@ -2,7 +2,7 @@ use Rattle.std.proofs.Common.{◌≡◌, ◌++◌, length, take}
 use Rattle.std.specs.Prelude.{map}
 use Rattle.std.specs.List.{flat_map}
 use Rattle.std.specs.Int.{w8}
-use Rattle.state_text.specs.Parts.{expect_in}
+use Rattle.saved_session.specs.Parts.{expect_in}
 use Rattle.state_text.specs.Text.{number_text, expect_text}
 use Rattle.state_text.proofs.writing.put_expects.Given as goal
 

@@ -2,9 +2,9 @@ use Rattle.std.proofs.Common.{◌<◌, ◌^◌, length, List, [], ◌∷◌}
 use Rattle.std.specs.Prelude.{map}
 use Rattle.std.specs.List.{AllByRecursion}
 use Rattle.std.proofs.lemmas.List.Elements.{All-from_recursion}
-use Rattle.state_text.specs.declared.saved.SavedFile.{SavedFile}
-use Rattle.state_text.specs.Parts.{file_in}
-use Rattle.state_text.specs.Valid.{FilesFit}
+use Rattle.saved_session.specs.declared.saved.SavedFile.{SavedFile}
+use Rattle.saved_session.specs.Parts.{file_in}
+use Rattle.saved_session.specs.Valid.{FilesFit}
 use Rattle.state_text.proofs.writing.put_files.Goals as goal
 
 each_fits : (files : List SavedFile) → FilesFit (map file_in files) → AllByRecursion (λ (f : SavedFile). length (file_in f).name < 2 ^ 16) files

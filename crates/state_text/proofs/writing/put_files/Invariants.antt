@@ -2,7 +2,7 @@ use Rattle.std.proofs.Common.{◌≡◌, ◌++◌, length, take}
 use Rattle.std.specs.Prelude.{map}
 use Rattle.std.specs.List.{flat_map}
 use Rattle.std.specs.Int.{w8}
-use Rattle.state_text.specs.Parts.{file_in}
+use Rattle.saved_session.specs.Parts.{file_in}
 use Rattle.state_text.specs.Text.{number_text, file_text}
 use Rattle.state_text.proofs.writing.put_files.Given as goal
 

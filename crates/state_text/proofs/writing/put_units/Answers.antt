@@ -2,9 +2,9 @@ use Rattle.std.proofs.Common.{◌<◌, ◌^◌, length, List, [], ◌∷◌}
 use Rattle.std.specs.Prelude.{map}
 use Rattle.std.specs.List.{AllByRecursion}
 use Rattle.std.proofs.lemmas.List.Elements.{All-from_recursion}
-use Rattle.state_text.specs.declared.saved.SavedUnit.{SavedUnit}
-use Rattle.state_text.specs.Parts.{unit_in}
-use Rattle.state_text.specs.Valid.{UnitsFit}
+use Rattle.saved_session.specs.declared.saved.SavedUnit.{SavedUnit}
+use Rattle.saved_session.specs.Parts.{unit_in}
+use Rattle.saved_session.specs.Valid.{UnitsFit}
 use Rattle.state_text.proofs.writing.put_units.Goals as goal
 
 each_fits : (units : List SavedUnit) → UnitsFit (map unit_in units) → AllByRecursion (λ (u : SavedUnit). length u.registers.items < 2 ^ 8) units

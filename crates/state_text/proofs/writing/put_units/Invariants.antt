@@ -2,7 +2,7 @@ use Rattle.std.proofs.Common.{◌≡◌, ◌++◌, length, take}
 use Rattle.std.specs.Prelude.{map}
 use Rattle.std.specs.List.{flat_map}
 use Rattle.std.specs.Int.{w8}
-use Rattle.state_text.specs.Parts.{unit_in}
+use Rattle.saved_session.specs.Parts.{unit_in}
 use Rattle.state_text.specs.Text.{number_text, unit_text}
 use Rattle.state_text.proofs.writing.put_units.Given as goal
 

@@ -1,10 +1,10 @@
 use Rattle.std.proofs.Common.{◌-◌, List, Result, drop, refl, sym, ap, subst, ◌∙◌, arith}
 use Rattle.std.specs.Prelude.{map}
-use Rattle.state_text.specs.declared.saved.SavedEvent.{SavedEvent}
+use Rattle.saved_session.specs.declared.saved.SavedEvent.{SavedEvent}
 use Rattle.state_text.specs.declared.fault.StateFault.{StateFault}
 use Rattle.state_text.specs.declared.state_reader.Part.{Part}
 use Rattle.state_text.specs.declared.state_reader.Part.TheVariants.{Agenda, FileCount}
-use Rattle.state_text.specs.Parts.{FilePart, unit_in}
+use Rattle.saved_session.specs.Parts.{FilePart, unit_in}
 use Rattle.state_text.specs.Readers.{At, at_of, followed}
 use Rattle.state_text.specs.Held.{at_in}
 use Rattle.state_text.specs.Pieces.{longer, rest_in, behind_machine, behind_agenda, behind_files}

@@ -4,9 +4,10 @@ use Rattle.std.proofs.lemmas.List.{map_push}
 use Rattle.state_text.specs.declared.fault.StateFault.{StateFault}
 use Rattle.state_text.specs.declared.state_reader.Part.{Part}
 use Rattle.state_text.specs.declared.state_reader.Part.TheVariants.{Breaks}
-use Rattle.state_text.specs.Parts.{BreakPart, break_in, state_in}
+use Rattle.saved_session.specs.Parts.{BreakPart, break_in, state_in}
 use Rattle.state_text.specs.Readers.{At, at_of, followed}
-use Rattle.state_text.specs.Reading.{break_at, behind_break}
+use Rattle.state_text.specs.Reading.{break_at}
+use Rattle.saved_session.specs.Order.{behind_break}
 use Rattle.state_text.specs.Held.{at_in}
 use Rattle.state_text.specs.Pieces.{longer, rest_in, still, behind_watch, behind_breaks}
 use Rattle.state_text.specs.Steps.{Stops}

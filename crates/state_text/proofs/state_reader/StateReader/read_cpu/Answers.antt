@@ -1,6 +1,6 @@
 use Rattle.std.proofs.Common.{◌-◌, ◌*◌, ℕ, List, Result, drop, refl, sym, ap, subst, ◌∙◌, arith}
 use Rattle.std.specs.Int.{w16}
-use Rattle.state_text.specs.declared.saved.SavedCpu.{SavedCpu}
+use Rattle.saved_session.specs.declared.saved.SavedCpu.{SavedCpu}
 use Rattle.state_text.specs.declared.fault.StateFault.{StateFault}
 use Rattle.state_text.specs.declared.state_reader.Part.{Part}
 use Rattle.state_text.specs.declared.state_reader.Part.TheVariants.{Cpu, Words}

@@ -4,7 +4,7 @@ use Rattle.std.proofs.lemmas.List.{map_push}
 use Rattle.state_text.specs.declared.fault.StateFault.{StateFault}
 use Rattle.state_text.specs.declared.state_reader.Part.{Part}
 use Rattle.state_text.specs.declared.state_reader.Part.TheVariants.{Expects}
-use Rattle.state_text.specs.Parts.{ExpectPart, break_in, expect_in, state_in}
+use Rattle.saved_session.specs.Parts.{ExpectPart, break_in, expect_in, state_in}
 use Rattle.state_text.specs.Readers.{At, at_of, followed, alike, unbound}
 use Rattle.state_text.specs.Reading.{expect_at}
 use Rattle.state_text.specs.Held.{at_in}

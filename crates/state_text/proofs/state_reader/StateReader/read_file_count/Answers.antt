@@ -3,9 +3,10 @@ use Rattle.std.specs.Prelude.{map}
 use Rattle.state_text.specs.declared.fault.StateFault.{StateFault}
 use Rattle.state_text.specs.declared.state_reader.Part.{Part}
 use Rattle.state_text.specs.declared.state_reader.Part.TheVariants.{FileCount, Files}
-use Rattle.state_text.specs.Parts.{FilePart, file_in, state_in}
+use Rattle.saved_session.specs.Parts.{FilePart, file_in, state_in}
 use Rattle.state_text.specs.Readers.{At, at_of, followed, chain}
-use Rattle.state_text.specs.Reading.{file_at, place_of, behind_file}
+use Rattle.state_text.specs.Reading.{file_at}
+use Rattle.saved_session.specs.Order.{place_of, behind_file}
 use Rattle.state_text.specs.Held.{at_in}
 use Rattle.state_text.specs.Pieces.{longer, rest_in, behind_files}
 use Rattle.state_text.specs.Steps.{Stops}

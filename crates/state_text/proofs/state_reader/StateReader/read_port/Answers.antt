@@ -2,7 +2,7 @@ use Rattle.std.proofs.Common.{◌-◌, ℕ, List, Result, drop, refl, sym, ap, s
 use Rattle.state_text.specs.declared.fault.StateFault.{StateFault}
 use Rattle.state_text.specs.declared.state_reader.Part.{Part}
 use Rattle.state_text.specs.declared.state_reader.Part.TheVariants.{Port, BreakCount}
-use Rattle.state_text.specs.Parts.{BreakPart, WatchPart, state_in}
+use Rattle.saved_session.specs.Parts.{BreakPart, WatchPart, state_in}
 use Rattle.state_text.specs.Readers.{At, at_of, followed}
 use Rattle.state_text.specs.Held.{at_in}
 use Rattle.state_text.specs.Pieces.{longer, rest_in, behind_port, behind_watch, behind_breaks}

@@ -1,12 +1,13 @@
 use Rattle.std.proofs.Common.{◌-◌, List, Result, drop, refl, sym, ap, subst, ◌∙◌}
 use Rattle.std.specs.Prelude.{map}
-use Rattle.state_text.specs.declared.saved.SavedSend.{SavedSend}
+use Rattle.saved_session.specs.declared.saved.SavedSend.{SavedSend}
 use Rattle.state_text.specs.declared.fault.StateFault.{StateFault}
 use Rattle.state_text.specs.declared.state_reader.Part.{Part}
 use Rattle.state_text.specs.declared.state_reader.Part.TheVariants.{Sends}
-use Rattle.state_text.specs.Parts.{break_in, expect_in, state_in}
+use Rattle.saved_session.specs.Parts.{break_in, expect_in, state_in}
 use Rattle.state_text.specs.Readers.{At, at_of, followed}
-use Rattle.state_text.specs.Reading.{send_at, behind_send}
+use Rattle.state_text.specs.Reading.{send_at}
+use Rattle.saved_session.specs.Order.{behind_send}
 use Rattle.state_text.specs.Held.{at_in}
 use Rattle.state_text.specs.Pieces.{longer, rest_in, still, behind_watch, behind_sends}
 use Rattle.state_text.specs.Steps.{Stops}

@@ -3,7 +3,7 @@ use Rattle.std.specs.Prelude.{map}
 use Rattle.state_text.specs.declared.fault.StateFault.{StateFault}
 use Rattle.state_text.specs.declared.state_reader.Part.{Part}
 use Rattle.state_text.specs.declared.state_reader.Part.TheVariants.{Units, Agenda}
-use Rattle.state_text.specs.Parts.{UnitPart, unit_in}
+use Rattle.saved_session.specs.Parts.{UnitPart, unit_in}
 use Rattle.state_text.specs.Readers.{At, followed}
 use Rattle.state_text.specs.Held.{at_in}
 use Rattle.state_text.specs.Pieces.{rest_in, behind_machine, behind_units}

@@ -2,7 +2,7 @@ use Rattle.std.proofs.Common.{◌-◌, ℕ, Result, drop, refl, sym, ap, subst, 
 use Rattle.state_text.specs.declared.fault.StateFault.{StateFault}
 use Rattle.state_text.specs.declared.state_reader.Part.{Part}
 use Rattle.state_text.specs.declared.state_reader.Part.TheVariants.{Version, Cpu}
-use Rattle.state_text.specs.Parts.{MachinePart}
+use Rattle.saved_session.specs.Parts.{MachinePart}
 use Rattle.state_text.specs.Readers.{At, at_of, followed}
 use Rattle.state_text.specs.Held.{at_in}
 use Rattle.state_text.specs.Pieces.{longer, rest_in, behind_version, behind_machine}

@@ -1,0 +1,4 @@
+pub mod RegisterCounts
+pub mod WatchOrder
+pub mod TakenLists
+pub mod PuttingWatchLemmas

@@ -1,7 +1,0 @@
-use Rattle.std.proofs.Common.{◌≡◌, take}
-use Rattle.std.specs.Prelude.{map}
-use Rattle.state_file.specs.Session.{saved_event}
-use Rattle.state_file.proofs.taking_machine.taken_agenda.Given as goal
-
-abbrev pub invariant-loop-k : goal.invariant-loop-k
-invariant-loop-k l = l.agenda.items ≡ take l.k (map saved_event l.events)

@@ -1,5 +1,0 @@
-use Rattle.state_text.proofs.PuttingWatchLemmas.{BreaksSoFar}
-use Rattle.state_text.proofs.putting_watch.breaks_from.Given as goal
-
-abbrev pub invariant-loop-entry : goal.invariant-loop-entry
-invariant-loop-entry l = BreaksSoFar l.breaks l.entry-index l.saved

@@ -1,5 +1,0 @@
-use Rattle.state_text.proofs.PuttingWatchLemmas.{SendsSoFar}
-use Rattle.state_text.proofs.putting_watch.sends_from.Given as goal
-
-abbrev pub invariant-loop-send : goal.invariant-loop-send
-invariant-loop-send l = SendsSoFar l.sends l.send-index l.saved

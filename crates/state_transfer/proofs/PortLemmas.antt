@@ -1,0 +1,70 @@
+-- Whose refusal that of a session is, and what it leaves of the lines.
+use Rattle.std.proofs.Common.{◌≡◌, inl, inr, ℕ, Bool, true, List, Err, refl}
+use Rattle.file_traits.specs.State.{FileState}
+use Rattle.host_lines.specs.State.{LineState}
+use Rattle.telnet_lines.specs.Line.{LineOf}
+use Rattle.saved_files.specs.declared.file_faults.RestoreFault.{RestoreFault}
+use Rattle.saved_files.specs.declared.file_faults.RestoreFault.TheVariants as fault
+use Rattle.state_transfer.specs.Listening.{IsHeardOn, IsPortFault, LeavesLines, wants_port}
+use Rattle.saved_session.specs.Parts.{FilePart}
+use Rattle.saved_files.specs.RestoreCauses.{IsCompared, OpeningsStand, SessionCause}
+use Rattle.saved_files.specs.Restoring.{IsOfThese, IsOfSession}
+
+-- ---- behind the files
+
+pub these-of-session : (fs : List FilePart) (e : RestoreFault) → IsOfThese fs e → IsOfSession fs e
+these-of-session fs (fault.NoFile unit) these = these
+these-of-session fs (fault.TooLong unit) these = these
+these-of-session fs (fault.Changed unit) these = these
+these-of-session fs (fault.Failed f) these = these
+these-of-session fs fault.Port these = tt
+these-of-session fs fault.OutOfMemory these = tt
+
+pub no-listening : (tells : Bool) (port : ℕ) (lines : List (LineOf ℕ)) (fs : List FilePart) (e : RestoreFault)
+    (s : LineState) → IsOfThese fs e → LeavesLines tells port lines (Err e) s s
+no-listening tells port lines fs (fault.NoFile unit) s these = refl
+no-listening tells port lines fs (fault.TooLong unit) s these = refl
+no-listening tells port lines fs (fault.Changed unit) s these = refl
+no-listening tells port lines fs (fault.Failed f) s these = refl
+no-listening tells port lines fs fault.Port s these = absurd these
+no-listening tells port lines fs fault.OutOfMemory s these = inl refl
+
+-- ---- behind the port
+
+pub port-of-session : (fs : List FilePart) (e : RestoreFault) → IsPortFault e → IsOfSession fs e
+port-of-session fs (fault.NoFile unit) is = absurd is
+port-of-session fs (fault.TooLong unit) is = absurd is
+port-of-session fs (fault.Changed unit) is = absurd is
+port-of-session fs (fault.Failed f) is = absurd is
+port-of-session fs fault.Port is = tt
+port-of-session fs fault.OutOfMemory is = tt
+
+pub no-port : (tells : Bool) (port : ℕ) (lines : List (LineOf ℕ)) (e : RestoreFault) (old new : LineState)
+    → IsPortFault e → wants_port port lines ≡ true
+    → (wants_port port lines ≡ true → IsHeardOn tells port (Err e) old new)
+    → LeavesLines tells port lines (Err e) old new
+no-port tells port lines (fault.NoFile unit) old new is wanted heard = absurd is
+no-port tells port lines (fault.TooLong unit) old new is wanted heard = absurd is
+no-port tells port lines (fault.Changed unit) old new is wanted heard = absurd is
+no-port tells port lines (fault.Failed f) old new is wanted heard = absurd is
+no-port tells port lines fault.Port old new is wanted heard = (wanted, heard wanted)
+no-port tells port lines fault.OutOfMemory old new is wanted heard = inr (wanted, heard wanted)
+
+-- a refused port is no changed file
+pub port-compared : (force : Bool) (e : RestoreFault) → IsPortFault e → IsCompared force (Err e)
+port-compared force (fault.Failed f) is = tt
+port-compared force (fault.NoFile unit) is = tt
+port-compared force (fault.TooLong unit) is = tt
+port-compared force (fault.Changed unit) is = absurd is
+port-compared force fault.Port is = tt
+port-compared force fault.OutOfMemory is = tt
+
+-- what it leaves of the counts of files
+pub port-cause : (tells : Bool) (e : RestoreFault) (old new : FileState) → IsPortFault e → OpeningsStand tells old new
+    → SessionCause tells (Err e) old new
+port-cause tells (fault.Failed f) old new is h = absurd is
+port-cause tells (fault.NoFile unit) old new is h = absurd is
+port-cause tells (fault.TooLong unit) old new is h = absurd is
+port-cause tells (fault.Changed unit) old new is h = absurd is
+port-cause tells fault.Port old new is h = h
+port-cause tells fault.OutOfMemory old new is h = tt

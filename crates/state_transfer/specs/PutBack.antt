@@ -1,0 +1,115 @@
+-- What is put back of a saved session.
+use Rattle.std.specs.Prelude.{◌≡◌, ◌≢◌, ℕ, zero, suc, ◌-◌, ◌*◌, ◌^◌, ◌==◌, Bool, false, List, [], ◌∷◌, ◌++◌, length, map, replicate, Option, Some, None, option_map}
+use Rattle.std.specs.List.{AllByRecursion}
+use Rattle.file_traits.specs.Lists.{NamedBytes}
+use Rattle.host_lines.specs.Traffic.{Peer}
+use Rattle.telnet_lines.specs.Line.{LineOf, unconnected}
+use Rattle.unit_trait.specs.declared.kind.UnitName.{UnitName}
+use Rattle.unit_trait.specs.Calls.{UnitState}
+use Rattle.event_queue.specs.EventList.{Event}
+use Rattle.unit_files.specs.Attachments.{Attachment, Held, no_attachments, attachment_at, file_units}
+use Rattle.unit_files.specs.Buffer.{disk_unit, no_marks}
+use Rattle.nova_memory.specs.Memory.{MemoryState, IsMemory, IsSize}
+use Rattle.nova_processor.specs.declared.cpu.Cpu.{Cpu}
+use Rattle.nova_interrupts.specs.declared.interrupts.Ints.{Ints}
+use Rattle.expect_actions.specs.Watch.{forgotten}
+use Rattle.nova_machine.specs.Machine.{MachineState}
+use Rattle.nova_machine.specs.Seen.{Seen, erased}
+use Rattle.nova_machine.specs.Valid.{DiskIsItsFile}
+use Rattle.saved_session.specs.declared.saved.SavedCpu.{SavedCpu}
+use Rattle.saved_session.specs.declared.saved.SavedEvent.{SavedEvent}
+use Rattle.saved_session.specs.Parts.{UnitPart, MachinePart, State}
+use Rattle.saved_session.specs.Ranges.{kind_at}
+use Rattle.saved_session.specs.SavedWatch.{watch_from}
+use Rattle.saved_files.specs.Restoring.{with_all, copy_of}
+
+-- ---- the machine
+
+abbrev pub is_set : ℕ → Bool
+is_set flag = flag == 1
+
+abbrev pub cpu_from : SavedCpu → Cpu
+cpu_from c = record { accumulators = c.acs; carry = is_set c.carry; pc = c.pc }
+
+abbrev pub interrupts_from : SavedCpu → Ints
+interrupts_from c = record { mask = c.mask; on = is_set c.on; hold = is_set c.hold }
+
+-- so many K of words, and 0 past them
+abbrev pub memory_from : ℕ → List ℕ → MemoryState
+memory_from k words = record { words = words ++ replicate (2 ^ 15 - 1024 * k) 0; size = 1024 * k }
+
+abbrev pub unit_from : UnitPart → UnitState
+unit_from u = record { kind = kind_at u.position; registers = u.registers }
+
+abbrev pub unit_named : ℕ → ℕ → UnitName
+unit_named position unit = record { kind = kind_at position; unit = unit }
+
+abbrev pub event_from : SavedEvent → Event
+event_from e = record { unit = unit_named e.position e.unit; remaining = e.remaining }
+
+-- ---- the attached files
+
+-- an attachment, without the number of its file
+abbrev pub held_from : Option Attachment → Option Held
+held_from a = option_map (λ (b : Attachment). record { file = 0; attachment = b }) a
+
+-- a machine to whose units that is attached, without its lines
+unfoldable pub machine_from : MachinePart → List (Option Attachment) → List NamedBytes → MachineState
+machine_from m attached files = record {
+  processor = record { cpu = cpu_from m.cpu; memory = memory_from m.cpu.size_k m.words };
+  ints = interrupts_from m.cpu;
+  sr = m.cpu.sr;
+  stop_dev = is_set m.cpu.stop_dev;
+  units = map unit_from m.units;
+  events = map event_from m.agenda;
+  time = m.cpu.time;
+  taken = m.cpu.keys_taken;
+  slots = map held_from attached;
+  disk = copy_of (attachment_at attached disk_unit) files;
+  lines = [];
+}
+
+-- ---- the port of line 0
+
+abbrev pub port_from : ℕ → Option ℕ
+port_from zero = None
+port_from (suc n) = Some (suc n)
+
+-- line 0 has that port or none, and nobody is connected; all other lines stay
+abbrev pub lines_from : ℕ → List (LineOf Peer) → List (LineOf Peer)
+lines_from port [] = []
+lines_from port (line ∷ others) = unconnected (port_from port) ∷ others
+
+-- ---- all of it
+
+-- What a session works on once a saved one was put back: the keys, the bytes of files and what is still to come on
+-- lines are the present ones.
+abbrev pub put_back : State → Seen → Seen
+put_back s present = record present {
+  machine = machine_from s.machine (with_all no_attachments s.files) present.files;
+  watch = watch_from s.watch;
+  lines = lines_from s.port present.lines;
+}
+
+-- ---- what can be saved
+
+-- nobody is connected to it, and its port, where it has one, is not 0
+pub record IsIdleLine (line : LineOf Peer) : Type 0 where
+  pub nobody : line ≡ unconnected line.port
+  pub port : line.port ≢ Some 0
+
+-- The memory is one, of a size that a machine may have, and each unit that takes files has its place. The machine is
+-- without numbers of files and without its lines, as it is seen. The disk's copy is that of its file, nothing is to be
+-- written back, and no page is marked. The actions of the stop that came last are forgotten. There is one line, with nobody
+-- on it.
+pub record CanBeSaved (s : Seen) : Type 0 where
+  pub memory : IsMemory s.machine.processor.memory
+  pub size : IsSize s.machine.processor.memory.size
+  pub places : length s.machine.slots ≡ file_units
+  pub seen : erased s.machine ≡ s.machine
+  pub copy : DiskIsItsFile s
+  pub written : s.machine.disk.written ≡ false
+  pub unmarked : s.machine.disk.marks ≡ no_marks
+  pub watch : s.watch ≡ forgotten s.watch
+  pub line : length s.lines ≡ 1
+  pub idle : AllByRecursion IsIdleLine s.lines

@@ -1,0 +1,54 @@
+-- A machine with a part of a saved one in it, and all else as it was.
+use Rattle.std.specs.Prelude.{◌≡◌, List, Option, map}
+use Rattle.host_lines.specs.Traffic.{Answer}
+use Rattle.host_lines.specs.Told.{ahead_of}
+use Rattle.nova_machine.specs.Seen.{Beside, seen}
+use Rattle.file_traits.specs.Lists.{NamedBytes}
+use Rattle.unit_files.specs.Attachments.{Attachment, attachments_of, attachment_at}
+use Rattle.unit_files.specs.Buffer.{disk_unit}
+use Rattle.nova_machine.specs.Machine.{MachineState}
+use Rattle.nova_machine.specs.Registers.{with_cpu}
+use Rattle.nova_machine.specs.Seen.{erased}
+use Rattle.nova_machine.specs.Turn.{with_memory}
+use Rattle.saved_session.specs.declared.saved.SavedCpu.{SavedCpu}
+use Rattle.state_transfer.specs.Listening.{AreClosed}
+use Rattle.saved_session.specs.Parts.{MachinePart, State}
+use Rattle.state_transfer.specs.PutBack.{is_set, cpu_from, interrupts_from, memory_from, unit_from, event_from, machine_from, put_back}
+use Rattle.saved_files.specs.Restoring.{copy_of}
+
+-- the registers that instructions change
+abbrev pub with_registers_of : MachineState → SavedCpu → MachineState
+with_registers_of m c = with_cpu m (cpu_from c)
+
+abbrev pub with_interrupts_of : MachineState → SavedCpu → MachineState
+with_interrupts_of m c = record m { ints = interrupts_from c }
+
+abbrev pub with_switches_of : MachineState → SavedCpu → MachineState
+with_switches_of m c = record m { sr = c.sr; stop_dev = is_set c.stop_dev }
+
+-- all of these, and the clock; memory stays
+abbrev pub with_cpu_of : MachineState → SavedCpu → MachineState
+with_cpu_of m c = record (with_switches_of (with_interrupts_of (with_registers_of m c) c) c) {
+  time = c.time;
+  taken = c.keys_taken;
+}
+
+-- all but its files and its lines
+abbrev pub with_machine_of : MachineState → MachinePart → MachineState
+with_machine_of m p = record (with_memory (with_cpu_of m p.cpu) (memory_from p.cpu.size_k p.words)) {
+  units = map unit_from p.units;
+  events = map event_from p.agenda;
+}
+
+-- It is seen as the saved machine, where these files are attached to it and the disk's copy is that of its file.
+abbrev pub IsSeenAs : MachineState → MachineState → MachinePart → Type 0
+IsSeenAs old new p =
+    (attached : List (Option Attachment)) (files : List NamedBytes) → attachments_of old.slots ≡ attached
+    → old.disk ≡ copy_of (attachment_at attached disk_unit) files → erased new ≡ machine_from p attached files
+
+-- A session that no line of which had a port is seen as the saved one put back into it, but that the listening was one
+-- call on the lines.
+abbrev pub IsPutBack : State → Beside → MachineState → Beside → MachineState → Type 0
+IsPutBack s before old after new =
+    AreClosed old.lines → before.keys ≡ after.keys → (whole : List Answer)
+    → seen after whole new ≡ record (put_back s (seen before whole old)) { ahead = ahead_of after.lines.told whole }

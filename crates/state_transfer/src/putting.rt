@@ -1,0 +1,164 @@
+// What was saved of a machine is put into it: its processor, words, units and events.
+ghost use Rattle.std.specs.Prelude.{◌≡◌, ◌*◌, ◌<◌, ℕ, List, [], IsTrue, length, map, is_some};
+ghost use Rattle.unit_trait.specs.Kinds.{code_of, units_of};
+ghost use Rattle.unit_trait.specs.Processor.{CanHold};
+ghost use Rattle.unit_trait.specs.Registers.{registers};
+ghost use Rattle.unit_trait.specs.Row.{InRange};
+ghost use Rattle.unit_list.specs.Bus.{unit_at};
+ghost use Rattle.unit_list.specs.Whole.{with_registers_in};
+ghost use Rattle.event_queue.specs.EventList.{activated};
+ghost use Rattle.nova_memory.specs.Memory.{IsSize};
+ghost use Rattle.nova_machine.specs.Registers.{with_register};
+ghost use Rattle.nova_machine.specs.Turn.{with_memory};
+ghost use Rattle.saved_session.specs.Parts.{unit_in, state_in};
+ghost use Rattle.state_transfer.specs.PutBack.{memory_from, unit_from, unit_named, event_from};
+ghost use Rattle.state_transfer.specs.Putting.{with_registers_of, with_interrupts_of, with_switches_of, with_cpu_of, with_machine_of, IsSeenAs};
+ghost use Rattle.saved_session.specs.Ranges.{kind_at, standard_kinds};
+ghost use Rattle.saved_session.specs.Order.{next_number, with_event};
+ghost use Rattle.state_transfer.specs.SavedValid.{AreStandard};
+ghost use Rattle.saved_session.specs.Valid.{Follow, IsCpu, IsUnit, IsEvent, IsMachine};
+
+use nova_machine::Machine;
+use nova_word::Word;
+use saved_session::{Saved, SavedCpu, SavedEvent, SavedUnit, kind_at};
+use unit_trait::{CpuReg, Unit, UnitName};
+
+// These numbers as words.
+fn words_of(numbers: [u16; 4]) -> [Word; 4]
+    ensures { result ≡ numbers }
+{
+    [
+        Word(numbers[0]),
+        Word(numbers[1]),
+        Word(numbers[2]),
+        Word(numbers[3]),
+    ]
+}
+
+// Sets a register to a value that it can hold.
+fn put_register<U: Unit>(machine: &mut Machine<U>, register: CpuReg, value: u16)
+    requires { CanHold register value }
+    ensures { machine.new ≡ with_register machine.old register value }
+{
+    let _fits = machine.set_cpu_reg(register, u32::from(value));
+}
+
+// The registers that instructions change.
+fn put_registers<U: Unit>(machine: &mut Machine<U>, cpu: &SavedCpu)
+    requires { IsCpu cpu.now }
+    ensures { machine.new ≡ with_registers_of machine.old cpu.now }
+{
+    machine.set_accumulators(words_of(cpu.acs));
+    put_register(machine, CpuReg::C, u16::from(cpu.carry));
+    put_register(machine, CpuReg::Pc, cpu.pc);
+}
+
+// The interrupts.
+fn put_interrupts<U: Unit>(machine: &mut Machine<U>, cpu: &SavedCpu)
+    requires { IsCpu cpu.now }
+    ensures { machine.new ≡ with_interrupts_of machine.old cpu.now }
+{
+    put_register(machine, CpuReg::Ion, u16::from(cpu.on));
+    put_register(machine, CpuReg::Hold, u16::from(cpu.hold));
+    put_register(machine, CpuReg::Mask, cpu.mask);
+}
+
+// The switches.
+fn put_switches<U: Unit>(machine: &mut Machine<U>, cpu: &SavedCpu)
+    requires { IsCpu cpu.now }
+    ensures { machine.new ≡ with_switches_of machine.old cpu.now }
+{
+    put_register(machine, CpuReg::Sr, cpu.sr);
+    put_register(machine, CpuReg::StopDev, u16::from(cpu.stop_dev));
+}
+
+/// The processor, the interrupts, the switches and the clock. Memory stays as it is, whatever its size.
+pub fn put_cpu<U: Unit>(machine: &mut Machine<U>, cpu: &SavedCpu)
+    requires { IsCpu cpu.now }
+    ensures { machine.new ≡ with_cpu_of machine.old cpu.now }
+{
+    put_registers(machine, cpu);
+    put_interrupts(machine, cpu);
+    put_switches(machine, cpu);
+    machine.set_clock(cpu.time, cpu.keys_taken);
+}
+
+/// The words of memory, and with them its size.
+pub fn put_memory<U: Unit>(machine: &mut Machine<U>, words: &[u16])
+    requires { IsSize (length words.now) }
+    ensures { (k : ℕ) → length words.now ≡ 1024 * k
+        → machine.new ≡ with_memory machine.old (memory_from k words.now) }
+{
+    machine.memory_mut().set_words(words);
+}
+
+// The registers of a unit.
+fn put_unit<U: Unit>(machine: &mut Machine<U>, unit: &SavedUnit)
+    requires { InRange (registers (kind_at unit.now.position)) unit.now.registers.items }
+    ensures { machine.new ≡ record machine.old {
+      units = with_registers_in (kind_at unit.now.position)
+          unit.now.registers.items machine.old.units;
+    } }
+{
+    machine.set_unit_regs(kind_at(unit.position), &unit.registers);
+}
+
+/// The registers of all units, which are those of a standard machine.
+pub fn put_units<U: Unit>(machine: &mut Machine<U>, units: &[SavedUnit])
+    requires standard { AreStandard machine.old.units }
+    requires all { length units.now ≡ standard_kinds }
+    requires valid { Follow IsUnit next_number 0 (map unit_in units.now) }
+    ensures { machine.new ≡ record machine.old { units = map unit_from (map unit_in units.now) } }
+{
+    for unit in units {
+        put_unit(machine, unit);
+    }
+}
+
+// The unit of an event.
+fn unit_of(event: &SavedEvent) -> UnitName
+    ensures { result ≡ unit_named event.now.position event.now.unit }
+{
+    UnitName {
+        kind: kind_at(event.position),
+        unit: event.unit,
+    }
+}
+
+// An event that waits behind those that are due no later.
+fn put_event<U: Unit>(machine: &mut Machine<U>, event: &SavedEvent)
+    requires number { event.now.unit < units_of (kind_at event.now.position) }
+    requires there { IsTrue (is_some (unit_at (code_of (kind_at event.now.position)) machine.old.units)) }
+    ensures { machine.new ≡ record machine.old {
+      events = activated (unit_named event.now.position event.now.unit)
+          event.now.remaining machine.old.events;
+    } }
+{
+    machine.activate(unit_of(event), event.remaining);
+}
+
+/// The events that wait, and no others: those of one time stay in their order.
+pub fn put_agenda<U: Unit>(machine: &mut Machine<U>, agenda: &[SavedEvent])
+    requires standard { AreStandard machine.old.units }
+    requires valid { Follow IsEvent with_event [] agenda.now }
+    ensures { machine.new ≡ record machine.old { events = map event_from agenda.now } }
+{
+    machine.clear_events();
+    for event in agenda {
+        put_event(machine, event);
+    }
+}
+
+/// The machine, but for its files and its lines.
+pub fn put_machine<U: Unit>(machine: &mut Machine<U>, saved: &Saved)
+    requires standard { AreStandard machine.old.units }
+    requires valid { IsMachine (state_in saved.now).machine }
+    ensures machine { machine.new ≡ with_machine_of machine.old (state_in saved.now).machine }
+    ensures seen { IsSeenAs machine.old machine.new (state_in saved.now).machine }
+    ensures standard { AreStandard machine.new.units }
+{
+    put_cpu(machine, &saved.cpu);
+    put_memory(machine, &saved.words);
+    put_units(machine, &saved.units);
+    put_agenda(machine, &saved.agenda);
+}

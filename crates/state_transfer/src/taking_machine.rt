@@ -1,0 +1,181 @@
+// What is saved of a machine is taken from it: its processor, words, units, events and the port of its second teletype.
+ghost use Rattle.std.specs.Prelude.{◌≡◌, ◌<◌, map, option_map, slice_get, take, Some, IfOk, ℕ, length};
+ghost use Rattle.host_lines.specs.State.{LineState};
+ghost use Rattle.telnet_lines.specs.Joined.{seen_line};
+ghost use Rattle.unit_trait.specs.Calls.{UnitState};
+ghost use Rattle.unit_trait.specs.Kinds.{code_of};
+ghost use Rattle.unit_list.specs.Bus.{unit_at};
+ghost use Rattle.unit_list.specs.BusOrder.{place_of};
+ghost use Rattle.saved_session.specs.Fields.{machine_in};
+ghost use Rattle.saved_session.specs.Parts.{unit_in};
+ghost use Rattle.saved_session.specs.Ranges.{kind_at, standard_kinds};
+ghost use Rattle.state_transfer.specs.SavedValid.{AreStandard};
+ghost use Rattle.saved_session.specs.Valid.{MachineFits};
+ghost use Rattle.state_transfer.specs.Session.{saved_cpu, saved_unit, saved_event, saved_machine, saved_port};
+
+use event_queue::Events;
+use nova_machine::Machine;
+use nova_memory::Memory;
+use nova_word::{Addr, Word};
+use saved_session::{MachineFields, SavedCpu, SavedEvent, SavedUnit, kind_at, register_count};
+use std::alloc::{AllocError, Global};
+use unit_trait::{CpuReg, Kind, Unit};
+
+/// How many units a machine has: one of each kind of a standard machine.
+const UNITS: u8 = 10;
+
+// The words of the accumulators.
+fn numbers_of(words: [Word; 4]) -> [u16; 4]
+    ensures { result ≡ words }
+{
+    let [first, second, third, fourth] = words;
+    [first.0, second.0, third.0, fourth.0]
+}
+
+/// The processor, the interrupts and the clock.
+pub fn taken_cpu<U: Unit>(machine: &Machine<U>) -> SavedCpu
+    ensures { result ≡ saved_cpu machine.now }
+{
+    SavedCpu {
+        size_k: (machine.memory().size() / 1024) as u8,
+        acs: numbers_of(machine.accumulators()),
+        carry: machine.cpu_reg(CpuReg::C) as u8,
+        pc: machine.pc().number(),
+        on: machine.cpu_reg(CpuReg::Ion) as u8,
+        hold: machine.cpu_reg(CpuReg::Hold) as u8,
+        mask: machine.cpu_reg(CpuReg::Mask) as u16,
+        sr: machine.cpu_reg(CpuReg::Sr) as u16,
+        stop_dev: machine.cpu_reg(CpuReg::StopDev) as u8,
+        time: machine.time(),
+        keys_taken: machine.keys_taken(),
+    }
+}
+
+/// The words below the size of memory.
+pub fn taken_words(alloc: Global, memory: &Memory) -> Result<Vec<u16>, AllocError>
+    ensures { IfOk result (λ v. v.items ≡ take memory.now.size memory.now.words) }
+{
+    let mut words = Vec::new(alloc);
+    for address in 0..memory.size() {
+        let word = memory.read(Addr::of_word(Word(address)));
+        words.push(word.0)?;
+    }
+    Ok(words)
+}
+
+// The registers of the unit of a kind, which is there.
+fn taken_registers<U: Unit>(
+    alloc: Global,
+    machine: &Machine<U>,
+    kind: Kind,
+) -> Result<Vec<u32>, AllocError>
+    ensures { IfOk result (λ v. (u : UnitState) → unit_at (code_of kind) machine.now.units ≡ Some u → v.items ≡ u.registers) }
+{
+    machine.core();
+    let mut registers = Vec::new(alloc);
+    for i in 0..register_count(kind) {
+        match machine.unit_reg(kind, i) {
+            Some(value) => registers.push(value)?,
+            None => return Ok(registers),
+        }
+    }
+    Ok(registers)
+}
+
+/// All units, in bus order.
+pub fn taken_units<U: Unit>(
+    alloc: Global,
+    machine: &Machine<U>,
+) -> Result<Vec<SavedUnit>, AllocError>
+    requires { AreStandard machine.now.units }
+    ensures { IfOk result (λ v. map unit_in v.items ≡ map saved_unit machine.now.units) }
+{
+    let mut units = Vec::new(alloc);
+    for position in 0..UNITS {
+        let registers = taken_registers(alloc, machine, kind_at(position))?;
+        units.push(SavedUnit {
+            position,
+            registers,
+        })?;
+    }
+    Ok(units)
+}
+
+// The position of a kind in bus order.
+fn position_of(kind: Kind) -> u8
+    ensures { result ≡ place_of kind }
+{
+    match kind {
+        Kind::Dsk => 0,
+        Kind::Mta => 1,
+        Kind::Lpt => 2,
+        Kind::Ptr => 3,
+        Kind::Ptp => 4,
+        Kind::Clk => 5,
+        Kind::Tti => 6,
+        Kind::Tto => 7,
+        Kind::Tti1 => 8,
+        Kind::Tto1 => 9,
+        Kind::Qty => 10,
+    }
+}
+
+// The event at a place in the order of their times; None past the last one.
+fn event_at(events: &Events, k: usize) -> Option<SavedEvent>
+    ensures { result ≡ option_map saved_event (slice_get events.now k) }
+{
+    events.sound();
+    match events.in_order(k) {
+        Some((unit, remaining)) => Some(SavedEvent {
+            position: position_of(unit.kind),
+            unit: unit.unit,
+            remaining: remaining as u32,
+        }),
+        None => None,
+    }
+}
+
+/// The events that wait, the next one first.
+pub fn taken_agenda(alloc: Global, events: &Events) -> Result<Vec<SavedEvent>, AllocError>
+    ensures { IfOk result (λ v. v.items ≡ map saved_event events.now) }
+{
+    let mut agenda = Vec::new(alloc);
+    for k in 0..events.len() {
+        match event_at(events, k) {
+            Some(event) => agenda.push(event)?,
+            None => return Ok(agenda),
+        }
+    }
+    Ok(agenda)
+}
+
+/// All that is saved of a machine but its files and its port.
+#[tactic(auto, unfolding(crate::specs::Session::saved_machine))]
+pub fn taken_machine<U: Unit>(
+    alloc: Global,
+    machine: &Machine<U>,
+) -> Result<MachineFields, AllocError>
+    requires { AreStandard machine.now.units }
+    ensures machine { IfOk result (λ f. machine_in f ≡ saved_machine machine.now) }
+    ensures fit { IfOk result (λ f. MachineFits (machine_in f)) }
+{
+    machine.core();
+    let _size = machine.memory().size();
+    Ok(MachineFields {
+        cpu: taken_cpu(machine),
+        words: taken_words(alloc, machine.memory())?,
+        units: taken_units(alloc, machine)?,
+        agenda: taken_agenda(alloc, machine.events())?,
+    })
+}
+
+/// The port of the second teletype's line, whoever is connected to it; 0 is none.
+#[tactic(auto, unfolding(crate::specs::Session::saved_port))]
+pub fn taken_port<U: Unit>(machine: &Machine<U>) -> u16
+    ensures { (s : LineState) → result ≡ saved_port (map (seen_line s) machine.now.lines) }
+{
+    match machine.line_at(0) {
+        Some(line) => line.port().unwrap_or(0),
+        None => 0,
+    }
+}
