@@ -73,12 +73,11 @@ abbrev Takes : UnitPlace → Type 0
 Takes p = IsTrue (takes_attachment (unit_at p))
 
 can-each : (a : AttachedFiles) (ps : List UnitPlace)
-    → (IsTrue (is_some (attachment_at (attachments_of a.slots) disk_unit)) → IsAsRead a.disk)
     → AllByRecursion Takes ps → AllByRecursion (CanDigest a) (unread_files (attachments_of a.slots) ps)
-can-each a [] clean takes = tt
-can-each a (p ∷ ps) clean takes =
+can-each a [] takes = tt
+can-each a (p ∷ ps) takes =
     one (attachment_at (attachments_of a.slots) (unit_at p)) refl (unread_files (attachments_of a.slots) ps)
-    (can-each a ps clean takes.1)
+    (can-each a ps takes.1)
   where
     one : (o : Option Attachment) → attachment_at (attachments_of a.slots) (unit_at p) ≡ o → (rest : List FilePart)
         → AllByRecursion (CanDigest a) rest → AllByRecursion (CanDigest a) (unread_at p o ++ rest)
@@ -87,11 +86,6 @@ can-each a (p ∷ ps) clean takes =
       record {
         unit = takes.0;
         there = is ∙ ap (λ (y : Attachment). Some y) (sym (same-attachment p x));
-        clean = λ disk.
-            let place = disk-place (kind_at p.position) p.unit disk takes.0 in
-            let same : attachment_at (attachments_of a.slots) disk_unit ≡ Some x =
-            ap (λ (n : ℕ). get_or (attachments_of a.slots) n None) (sym place) ∙ is in
-            clean (subst (λ (y : Option Attachment). IsTrue (is_some y)) (sym same) refl);
       },
       others,
     )
@@ -101,13 +95,10 @@ unfolding file_places kind_at
 all-take = (refl, (refl, (refl, (refl, (refl, (refl, (refl, (refl, (refl, (refl, (refl, (refl, tt))))))))))))
 
 pub can-unread : (a : AttachedFiles) (attached : List (Option Attachment)) → attachments_of a.slots ≡ attached
-    → (IsTrue (is_some (attachment_at attached disk_unit)) → IsAsRead a.disk)
     → AllByRecursion (CanDigest a) (unread_files attached file_places)
-can-unread a attached same clean =
+can-unread a attached same =
     subst (λ (l : List (Option Attachment)). AllByRecursion (CanDigest a) (unread_files l file_places)) same
-    (can-each a file_places
-    (subst (λ (l : List (Option Attachment)). IsTrue (is_some (attachment_at l disk_unit)) → IsAsRead a.disk)
-    (sym same) clean) all-take)
+    (can-each a file_places all-take)
 
 -- ---- no unit comes twice
 

@@ -9,10 +9,6 @@ use Rattle.saved_files.specs.Saving.{undigested}
 use Rattle.saved_files.proofs.SavingLaws.{digested-so}
 use Rattle.saved_files.proofs.saving.digest_one.Goals as goal
 
-pub digest_unit-requires-clause-clean : goal.digest_unit-requires-clause-clean
-digest_unit-requires-clause-clean g c = λ disk.
-    c.requires.can.clean (ap (λ (u : UnitName). is_disk u.kind) (sym c.unit_of.ensures) ∙ disk)
-
 pub returns-in-Ok-clause-told : goal.returns-in-Ok-clause-told
 returns-in-Ok-clause-told g c = λ t.
     let f = file_in c.args.file.now in
