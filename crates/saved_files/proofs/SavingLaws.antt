@@ -1,7 +1,7 @@
 -- The files of units are digested one behind another, behind the writing back of the disk's copy.
 use Rattle.std.proofs.Common.{◌≡◌, inl, inr, ℕ, ◌+◌, ◌≤◌, Bool, true, false, cond, suc, List, [], ◌∷◌, ◌++◌, length}
 use Rattle.std.proofs.Common.{Option, Some, None, Err, take, refl, sym, ap, subst, ◌∙◌, arith, if◌then◌else◌}
-use Rattle.std.specs.Prelude.{IsTrue, is_some, map, get_or, nat_lt, nat_le, ◌&&◌, ◌==◌}
+use Rattle.std.specs.Prelude.{IsTrue, map, nat_lt, nat_le, ◌&&◌, ◌==◌}
 use Rattle.std.specs.List.{AllByRecursion}
 use Rattle.std.proofs.lemmas.Bool.{and_parts}
 use Rattle.std.proofs.lemmas.Bool.Decides.{nat_tests}
@@ -28,12 +28,11 @@ use Rattle.saved_files.specs.declared.saving.UnitPlace.{UnitPlace}
 use Rattle.state_text.specs.Parts.{FilePart}
 use Rattle.state_text.specs.Ranges.{kind_at}
 use Rattle.saved_files.specs.Restoring.{unit_of, attachment_of, at_unit}
-use Rattle.saved_files.specs.RestoringOne.{AreOfTwo, AreApart, IsAsRead}
+use Rattle.saved_files.specs.RestoringOne.{AreOfTwo, AreApart}
 use Rattle.saved_files.specs.Saving.{unit_at, file_places, flag_of, saved_at, saved_files, undigested, failing_first}
 use Rattle.saved_files.specs.Saving.{first_undigested, unless_unflushed, files_flushed, copy_flushed, first_unsaved}
 use Rattle.saved_files.specs.SavingOne.{unread_file, unread_at, unread_files, read_file, CanDigest, first_unread}
 use Rattle.saved_files.specs.SavingOne.{names_of, AreNamed, fault_claim, FlushSays}
-use Rattle.saved_files.proofs.Together.{disk-place}
 
 -- ---- one file
 

@@ -1,5 +1,5 @@
 -- What the calls want and answer that save the files of units: their names are taken first, and then each is digested.
-use Rattle.std.specs.Prelude.{◌≡◌, ℕ, true, IsTrue, is_some, List, [], ◌∷◌, map, length, replicate, Option, Some}
+use Rattle.std.specs.Prelude.{◌≡◌, ℕ, IsTrue, List, [], ◌∷◌, map, length, replicate, Option, Some}
 use Rattle.std.specs.Prelude.{None, Result, Ok, Err}
 use Rattle.std.specs.List.{AllByRecursion, flat_map}
 use Rattle.sha2.specs.Sha256.{sha256}

@@ -1,7 +1,7 @@
 use Rattle.std.proofs.Common.{sym, ap, ◌∙◌}
 use Rattle.file_traits.specs.Lists.{bytes_of}
 use Rattle.unit_trait.specs.declared.kind.UnitName.{UnitName}
-use Rattle.unit_files.specs.Attachments.{attachments_of, attachment_at, is_disk}
+use Rattle.unit_files.specs.Attachments.{attachments_of, attachment_at}
 use Rattle.unit_files.specs.Digests.{DigestSaid}
 use Rattle.state_text.specs.Parts.{file_in}
 use Rattle.saved_files.specs.Restoring.{attachment_of}
