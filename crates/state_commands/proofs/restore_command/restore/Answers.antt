@@ -37,7 +37,7 @@ use Rattle.command_session.proofs.KeptLemmas.{lines-kept}
 use Rattle.command_session.proofs.OwnFileLemmas.{whole-own}
 use Rattle.state_commands.proofs.RestoreLemmas.{occupied-reply, occupied-seen, unread-by, unfit-by, back-did}
 use Rattle.state_commands.proofs.RestoreLines.{restore-done, restore-refused, restore-unasked, back-ends, refused-by}
-use Rattle.state_commands.proofs.RestoreNotes.{restore-keeps, read-shut-notes, refused-restore-keeps, done-restore-keeps, restore-own, whole-fault, want-fault, no-notes}
+use Rattle.state_commands.proofs.RestoreNotes.{restore-keeps, read-shut-notes, refused-restore-keeps, done-restore-keeps, restore-own, whole-fault, want-fault, want-why, no-notes}
 use Rattle.command_session.proofs.WholeLemmas.{own_both, read-claims, read-keeps, short-read, TakesClosings}
 use Rattle.state_commands.proofs.RestoredCan.{restored-can}
 use Rattle.state_commands.proofs.StateWorkLemmas.{unread-works, unfit-works, refused-works}
@@ -94,9 +94,8 @@ returns-in-Err-clause-undone g c = λ out is.
 
 pub returns-in-Err-clause-measured : goal.returns-in-Err-clause-measured
 returns-in-Err-clause-measured g c = λ is.
-    let w = whole_of c.read_state_file-read.result in
     subst (λ (b : Result (Vec ℕ) WholeFault). WholeCause g.F.Files.tells c.args.name.now b (g.F.Files.state c.args.files.now) (g.F.Files.state c.read_state_file-read.new.files))
-    (want-fault w.bytes c.in-Err.fault (ap bytes_for c.in-Err.ensures.reader) (ap Err (sym c.of_whole.ensures) ∙ is)) c.read_state_file-read.ensures.cause
+    (ap bytes_for c.in-Err.ensures.reader ∙ ap Err (want-why c.in-Err.fault (ap Err (sym c.of_whole.ensures) ∙ is))) c.read_state_file-read.ensures.cause
 
 pub returns-in-Err-clause-keeps : goal.returns-in-Err-clause-keeps
 returns-in-Err-clause-keeps g c =
