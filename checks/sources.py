@@ -294,7 +294,8 @@ class Specs:
         found = set()
         for item in parsed(head)[parsed(head).index(name) + 1:]:
             found |= names_of_group(item, bound) if isinstance(item, list) else free_names([item], bound)
-        for part in re.split(r"\n  (?=\S)", body)[1:]:
+        # A line that closes a bracket belongs to the part above it.
+        for part in re.split(r"\n  (?=[^\s)}\]])", body)[1:]:
             items = [item for item in parsed(part) if item != "pub"]
             place = items.index(":")
             found |= free_names(items[place + 1:], bound)

@@ -50,10 +50,13 @@ abbrev pub WasOpened : Answer → FileState → FileState → Type 0
 WasOpened (Err FileTooLong) old new = old.given < new.given
 WasOpened answer old new = Unit {0}
 
--- The length of a script of DO and of a tape of LOAD is asked before memory is taken for its bytes: where it was opened and
--- is too long, that is the answer, and no want of memory. Of ATTACH it is asked behind the opening too.
+-- The length of a script of DO, of a tape of LOAD and of a state file is asked before memory is taken for its bytes: where it
+-- was opened and is too long, that is the answer, and no want of memory. Of ATTACH it is asked behind the opening too. A file
+-- that is too long may be one of a unit that RESTORE attaches: so of RESTORE the want of memory alone is said.
 abbrev pub IsMeasured : Bool → Request → Answer → FileState → FileState → Type 0
 IsMeasured tells (Do echo strict name arguments) answer old new = UnreadCause tells name answer old new
 IsMeasured tells (Load name) answer old new = UnreadCause tells name answer old new
 IsMeasured tells (Attach option unit name) answer old new = WasOpened answer old new
+IsMeasured tells (Restore force name) answer old new =
+    answer ≡ Err OutOfMemory → WholeCause tells name (Err whole.OutOfMemory) old new
 IsMeasured tells request answer old new = Unit {0}

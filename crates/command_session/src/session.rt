@@ -28,7 +28,8 @@ pub struct Session<U: Unit> {
     pub keys: Keys,
     /// How many instructions a run may execute, from 1 to 2^48.
     pub limit: u64,
-    /// The calls on files that failed, in order, but for the closing that a refused ATTACH makes.
+    /// The calls on files that failed, in order, but for the closings of files that a refused ATTACH or RESTORE had
+    /// opened for units.
     pub notes: Vec<FaultNote>,
     /// How many units of the budget are spent, those of the command that is done included.
     pub command: u64,

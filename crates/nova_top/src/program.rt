@@ -55,7 +55,8 @@ pub struct Ending<U: Unit> {
     pub status: u8,
     /// The machine as it was left, where there was one. Files that are still attached to it are still open.
     pub machine: Option<Machine<U>>,
-    /// The calls on files that failed, in order, but for the closing that a refused ATTACH makes.
+    /// The calls on files that failed, in order, but for the closings of files that a refused ATTACH or RESTORE had
+    /// opened for units.
     pub faults: Vec<FaultNote>,
 }
 

@@ -34,7 +34,7 @@ fn each(
 }
 
 /// Plays a row over files that are there.
-fn play_over<F: Files>(
+pub fn play_over<F: Files>(
     rt: &impl Abort,
     alloc: Global,
     files: &mut F,

@@ -24,6 +24,8 @@ mod row;
 #[cfg(test)]
 mod sessions;
 #[cfg(test)]
+mod short_reads;
+#[cfg(test)]
 mod standard;
 #[cfg(test)]
 mod standard_units;

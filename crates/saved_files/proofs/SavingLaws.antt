@@ -1,7 +1,7 @@
 -- The files of units are digested one behind another, behind the writing back of the disk's copy.
 use Rattle.std.proofs.Common.{◌≡◌, inl, inr, ℕ, ◌+◌, ◌≤◌, Bool, true, false, cond, suc, List, [], ◌∷◌, ◌++◌, length}
 use Rattle.std.proofs.Common.{Option, Some, None, Err, take, refl, sym, ap, subst, ◌∙◌, arith, if◌then◌else◌}
-use Rattle.std.specs.Prelude.{IsTrue, is_some, map, get_or, nat_lt, nat_le, ◌&&◌, ◌==◌}
+use Rattle.std.specs.Prelude.{IsTrue, map, nat_lt, nat_le, ◌&&◌, ◌==◌}
 use Rattle.std.specs.List.{AllByRecursion}
 use Rattle.std.proofs.lemmas.Bool.{and_parts}
 use Rattle.std.proofs.lemmas.Bool.Decides.{nat_tests}
@@ -28,12 +28,11 @@ use Rattle.saved_files.specs.declared.saving.UnitPlace.{UnitPlace}
 use Rattle.saved_session.specs.Parts.{FilePart}
 use Rattle.saved_session.specs.Ranges.{kind_at}
 use Rattle.saved_files.specs.Restoring.{unit_of, attachment_of, at_unit}
-use Rattle.saved_files.specs.RestoringOne.{AreOfTwo, AreApart, IsAsRead}
+use Rattle.saved_files.specs.RestoringOne.{AreOfTwo, AreApart}
 use Rattle.saved_files.specs.Saving.{unit_at, file_places, flag_of, saved_at, saved_files, undigested, failing_first}
 use Rattle.saved_files.specs.Saving.{first_undigested, unless_unflushed, files_flushed, copy_flushed, first_unsaved}
 use Rattle.saved_files.specs.SavingOne.{unread_file, unread_at, unread_files, read_file, CanDigest, first_unread}
 use Rattle.saved_files.specs.SavingOne.{names_of, AreNamed, fault_claim, FlushSays}
-use Rattle.saved_files.proofs.Together.{disk-place}
 
 -- ---- one file
 
@@ -73,12 +72,11 @@ abbrev Takes : UnitPlace → Type 0
 Takes p = IsTrue (takes_attachment (unit_at p))
 
 can-each : (a : AttachedFiles) (ps : List UnitPlace)
-    → (IsTrue (is_some (attachment_at (attachments_of a.slots) disk_unit)) → IsAsRead a.disk)
     → AllByRecursion Takes ps → AllByRecursion (CanDigest a) (unread_files (attachments_of a.slots) ps)
-can-each a [] clean takes = tt
-can-each a (p ∷ ps) clean takes =
+can-each a [] takes = tt
+can-each a (p ∷ ps) takes =
     one (attachment_at (attachments_of a.slots) (unit_at p)) refl (unread_files (attachments_of a.slots) ps)
-    (can-each a ps clean takes.1)
+    (can-each a ps takes.1)
   where
     one : (o : Option Attachment) → attachment_at (attachments_of a.slots) (unit_at p) ≡ o → (rest : List FilePart)
         → AllByRecursion (CanDigest a) rest → AllByRecursion (CanDigest a) (unread_at p o ++ rest)
@@ -87,11 +85,6 @@ can-each a (p ∷ ps) clean takes =
       record {
         unit = takes.0;
         there = is ∙ ap (λ (y : Attachment). Some y) (sym (same-attachment p x));
-        clean = λ disk.
-            let place = disk-place (kind_at p.position) p.unit disk takes.0 in
-            let same : attachment_at (attachments_of a.slots) disk_unit ≡ Some x =
-            ap (λ (n : ℕ). get_or (attachments_of a.slots) n None) (sym place) ∙ is in
-            clean (subst (λ (y : Option Attachment). IsTrue (is_some y)) (sym same) refl);
       },
       others,
     )
@@ -101,13 +94,10 @@ unfolding file_places kind_at
 all-take = (refl, (refl, (refl, (refl, (refl, (refl, (refl, (refl, (refl, (refl, (refl, (refl, tt))))))))))))
 
 pub can-unread : (a : AttachedFiles) (attached : List (Option Attachment)) → attachments_of a.slots ≡ attached
-    → (IsTrue (is_some (attachment_at attached disk_unit)) → IsAsRead a.disk)
     → AllByRecursion (CanDigest a) (unread_files attached file_places)
-can-unread a attached same clean =
+can-unread a attached same =
     subst (λ (l : List (Option Attachment)). AllByRecursion (CanDigest a) (unread_files l file_places)) same
-    (can-each a file_places
-    (subst (λ (l : List (Option Attachment)). IsTrue (is_some (attachment_at l disk_unit)) → IsAsRead a.disk)
-    (sym same) clean) all-take)
+    (can-each a file_places all-take)
 
 -- ---- no unit comes twice
 

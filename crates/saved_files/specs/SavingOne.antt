@@ -1,5 +1,5 @@
 -- What the calls want and answer that save the files of units: their names are taken first, and then each is digested.
-use Rattle.std.specs.Prelude.{◌≡◌, ℕ, true, IsTrue, is_some, List, [], ◌∷◌, map, length, replicate, Option, Some}
+use Rattle.std.specs.Prelude.{◌≡◌, ℕ, IsTrue, List, [], ◌∷◌, map, length, replicate, Option, Some}
 use Rattle.std.specs.Prelude.{None, Result, Ok, Err}
 use Rattle.std.specs.List.{AllByRecursion, flat_map}
 use Rattle.sha2.specs.Sha256.{sha256}
@@ -7,7 +7,7 @@ use Rattle.file_traits.specs.Lists.{NamedBytes, bytes_of}
 use Rattle.file_traits.specs.State.{FileState}
 use Rattle.unit_trait.specs.declared.kind.UnitName.{UnitName}
 use Rattle.unit_files.specs.declared.faults.UnitFault.{UnitFault}
-use Rattle.unit_files.specs.Attachments.{Attachment, Held, takes_attachment, is_disk, attachment_at, attachments_of}
+use Rattle.unit_files.specs.Attachments.{Attachment, Held, takes_attachment, attachment_at, attachments_of}
 use Rattle.unit_files.specs.Attachments.{IsFileName}
 use Rattle.unit_files.specs.Buffer.{AttachedFiles, Buffer, disk_unit}
 use Rattle.unit_files.specs.Acts.{Failure, NotFlushed, flush_said}
@@ -16,9 +16,7 @@ use Rattle.unit_files.specs.Causes.{IsQuiet}
 use Rattle.unit_files.specs.Digests.{digest_measured, IsDigestFault}
 use Rattle.saved_files.specs.declared.saving.UnitPlace.{UnitPlace}
 use Rattle.saved_session.specs.Parts.{FilePart}
-use Rattle.saved_session.specs.Ranges.{kind_at}
 use Rattle.saved_files.specs.Restoring.{unit_of, attachment_of, at_unit}
-use Rattle.saved_files.specs.RestoringOne.{IsAsRead}
 use Rattle.saved_files.specs.Saving.{unit_at, flag_of, undigested, failing_first}
 
 -- a unit's file that is not read yet: it has a name
@@ -50,11 +48,10 @@ AreNamed files = AllByRecursion (λ (f : FilePart). IsFileName f.name) files
 abbrev pub read_file : List NamedBytes → FilePart → FilePart
 read_file files f = record f { size = length (bytes_of files f.name); digest = sha256 (bytes_of files f.name) }
 
--- it is attached to its unit, and nothing is to be written back
+-- it is attached to its unit
 pub record CanDigest (a : AttachedFiles) (f : FilePart) : Type 0 where
   pub unit : IsTrue (takes_attachment (unit_of f))
   pub there : attachment_at (attachments_of a.slots) (unit_of f) ≡ Some (attachment_of f)
-  pub clean : is_disk (kind_at f.position) ≡ true → IsAsRead a.disk
 
 -- the first call that fails where these are digested one behind another, with its unit
 abbrev pub first_unread : Option (UnitName × Failure) → List NamedBytes → List FilePart → Option (UnitName × Failure)
@@ -93,8 +90,3 @@ abbrev pub FlushSays : Result (Unit {0}) UnitFault → Option Attachment → Buf
 FlushSays (Ok u) a disk = Unit {0}
 FlushSays (Err f) a disk =
     (f.unit ≡ disk_unit) × (flush_said (Some (failure_in f)) disk_unit a disk ≡ NotFlushed (failure_in f))
-
--- nothing is to be written back behind one that did not fail
-abbrev pub IsFlushed : Result (Unit {0}) UnitFault → Option Attachment → Buffer → Type 0
-IsFlushed (Ok u) a disk = IsTrue (is_some a) → IsAsRead disk
-IsFlushed (Err f) a disk = Unit {0}

@@ -117,7 +117,6 @@ fn compare<F: Files>(
 ) -> Result<(), RestoreFault>
     requires unit { IsTrue (takes_attachment (unit_of (file_in file.now))) }
     requires there { IsTrue (is_some (attachment_at (attachments_of attached.old.slots) (unit_of (file_in file.now)))) }
-    requires clean { is_disk (kind_at file.now.position) ≡ true → IsAsRead attached.old.disk }
     requires open { AllOpen attached.old.slots (F.state files.old).opened }
     ensures told { IsTrue F.tells → (a : Attachment)
         → attachment_at (attachments_of attached.old.slots) (unit_of (file_in file.now)) ≡ Some a

@@ -12,7 +12,7 @@ ghost use Rattle.saved_files.specs.RestoringOne.{AreApart};
 ghost use Rattle.saved_files.specs.Saving.{unit_at, file_places, saved_files, first_unsaved, files_flushed};
 ghost use Rattle.saved_files.specs.Saving.{copy_flushed, save_claim, UnlessNoMemory, IfNoMemory, SaveCause};
 ghost use Rattle.saved_files.specs.SavingOne.{unread_at, unread_files, AreNamed, names_of, CanDigest, Digests};
-ghost use Rattle.saved_files.specs.SavingOne.{UnitCause, failure_of_write, FlushSays, IsFlushed, DigestsOne};
+ghost use Rattle.saved_files.specs.SavingOne.{UnitCause, failure_of_write, FlushSays, DigestsOne};
 
 use crate::file_faults::SaveFault;
 use crate::restoring::unit_of;
@@ -156,7 +156,6 @@ fn all_unread(alloc: Global, attached: &Attached) -> Result<Vec<SavedFile>, Allo
 fn write_back<F: Files>(attached: &mut Attached, files: &mut F) -> Result<(), UnitFault>
     requires open { AllOpen attached.old.slots (F.state files.old).opened }
     ensures said { FlushSays result (attachment_at (attachments_of attached.old.slots) disk_unit) attached.old.disk }
-    ensures flushed { IsFlushed result (attachment_at (attachments_of attached.old.slots) disk_unit) attached.new.disk }
     ensures slots { attached.new.slots ≡ attached.old.slots }
     ensures disk { attached.new.disk ≡ buffer_flushed (flush_said (failure_of_write result) disk_unit
         (attachment_at (attachments_of attached.old.slots) disk_unit) attached.old.disk) disk_unit attached.old.disk }

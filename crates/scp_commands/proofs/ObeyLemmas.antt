@@ -147,6 +147,7 @@ is-untold line v s o = (refl, refl)
 pub none-measured : (tells : Bool) (r : Request) (state : FileState) → IsMeasured tells r (Err OutOfMemory) state state
 none-measured tells (Do echo strict name arguments) state = λ told more. absurd (omega (arith, more))
 none-measured tells (Load name) state = λ told more. absurd (omega (arith, more))
+none-measured tells (Restore force name) state = λ is more told. absurd (omega (arith, more))
 none-measured tells r state = tt
 
 -- ---- the commands that work on no file and no line
@@ -199,6 +200,7 @@ pub run-measured : (tells : Bool) (r : Request) (answer : Answer) (old new : Fil
 run-measured tells (Do echo strict name arguments) answer old new runs = absurd runs
 run-measured tells (Load name) answer old new runs = absurd runs
 run-measured tells (Attach option unit name) answer old new runs = absurd runs
+run-measured tells (Restore force name) answer old new runs = absurd runs
 run-measured tells r answer old new runs = tt
 
 pub run-works : (r : Request) (answer : Answer) (s t : CommandState) (old new : FileState) → IsRun r → Works r answer s t old new
@@ -270,6 +272,7 @@ pub untold-measured : (tells : Bool) (r : Request) (answer : Answer) (old new : 
 untold-measured tells (Do echo strict name arguments) answer old new untold = absurd (cc untold.0)
 untold-measured tells (Load name) answer old new untold = absurd (cc untold.0)
 untold-measured tells (Attach option unit name) answer old new untold = absurd (cc untold.0)
+untold-measured tells (Restore force name) answer old new untold = absurd (cc untold.0)
 untold-measured tells r answer old new untold = tt
 
 pub untold-note : (r : Request) (answer : Answer) (stamp : Stamp) (notes notes' : List FaultNote) (old new : FileState) → IsUntold r → AttachNote r answer stamp notes notes' old new

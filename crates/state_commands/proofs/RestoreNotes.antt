@@ -24,6 +24,7 @@ use Rattle.file_commands.proofs.Possible.{none-done}
 use Rattle.whole_files.specs.declared.whole.FailedCall.{FailedCall}
 use Rattle.whole_files.specs.declared.whole.Whole.{Whole}
 use Rattle.whole_files.specs.declared.whole.WholeFault.{WholeFault}
+use Rattle.whole_files.specs.declared.whole.WholeFault.TheVariants as fault
 use Rattle.whole_files.specs.Claims.{HasShape, is_failed, is_missing}
 use Rattle.saved_files.specs.declared.file_faults.RestoreFault.{RestoreFault}
 use Rattle.saved_files.specs.declared.file_faults.RestoreFault.TheVariants as restore
@@ -270,6 +271,13 @@ whole-fault bytes why is = ap (whole_answer subject.State (λ read. Ok Go)) is
 pub want-fault : (bytes : Result (Vec ℕ) WholeFault) (why : WholeFault) → bytes ≡ Err why → ◌≡◌ {A = Answer} (Err (whole_fault subject.State why)) (Err OutOfMemory)
     → whole_answer subject.State (λ read. Ok Go) bytes ≡ Err OutOfMemory
 want-fault bytes why is want = whole-fault bytes why is ∙ want
+
+-- and the reading wanted it
+pub want-why : (why : WholeFault) → ◌≡◌ {A = Answer} (Err (whole_fault subject.State why)) (Err OutOfMemory) → why ≡ fault.OutOfMemory
+want-why fault.NoFile is = absurd (cc)
+want-why fault.TooLong is = absurd (cc)
+want-why fault.Failed is = absurd (cc)
+want-why fault.OutOfMemory is = refl
 
 -- where memory ran out there is no note
 pub no-notes : (fault : RestoreFault) (stamp : Stamp) → ◌≡◌ {A = Answer} (Err (restore_fault fault)) (Err OutOfMemory) → restore_notes stamp fault ≡ []

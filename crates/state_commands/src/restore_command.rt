@@ -21,6 +21,8 @@ ghost use Rattle.state_transfer.specs.SavedValid.{AreStandard};
 ghost use Rattle.saved_session.specs.Valid.{Valid};
 ghost use Rattle.scp_parser.specs.Command.{Restore};
 ghost use Rattle.command_session.specs.declared.fault.CommandFault.TheVariants.{OutOfMemory};
+ghost use Rattle.whole_files.specs.declared.whole.WholeFault.TheVariants.{OutOfMemory as whole_want};
+ghost use Rattle.whole_files.specs.Claims.{WholeCause};
 ghost use Rattle.command_session.specs.Live.{live_in, beyond};
 ghost use Rattle.command_session.specs.LinesLeft.{LinesLeft, Unlistened, AttachCause};
 ghost use Rattle.state_commands.specs.RestoredLines.{RestoresLines};
@@ -91,6 +93,8 @@ pub fn restore<U: Unit, F: Files, L: Lines>(
         (F.state files.new) }
     ensures unrefused { result ≡ Err OutOfMemory
         → IsUnrefused (Restore force name.now) session.old.machine session.old.watch }
+    ensures measured { result ≡ Err OutOfMemory
+        → WholeCause F.tells name.now (Err whole_want) (F.state files.old) (F.state files.new) }
     ensures keeps { KeepsBy true session.old.command session.old.machine.time session.new.machine.time F.tells result
         session.old.notes session.new.notes (F.state files.old) (F.state files.new) }
     ensures whose { AreOwn session.old.machine.slots session.new.machine.slots session.old.notes session.new.notes

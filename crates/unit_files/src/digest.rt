@@ -56,12 +56,14 @@ impl Attached {
     {
         match self.flush(unit, files) {
             Err(fault) => Err(fault),
-            Ok(()) => self.digest_there(unit, files),
+            Ok(()) => self.digest_unflushed(unit, files),
         }
     }
 
-    // The length and the digest of a unit's file as it stands there.
-    fn digest_there<F: Files>(
+    /// The same of the file as it stands there: nothing is written back, and what the disk holds beside its file is not
+    /// in it. `NotAttached` comes exactly where nothing is attached, and `Failed` where the length or a read failed. All
+    /// stays as it is.
+    pub fn digest_unflushed<F: Files>(
         &self,
         unit: UnitName,
         files: &mut F,

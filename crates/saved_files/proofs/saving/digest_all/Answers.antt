@@ -24,7 +24,7 @@ digest_each-requires-clause-can g c =
     subst (λ (l : List FilePart). AllByRecursion (CanDigest c.write_back.new.attached) l)
     (sym (ap files_in c.as_mut_slice.ensures.value ∙ c.in-Ok.ensures.files))
     (can-unread c.write_back.new.attached attached
-    (ap (λ (l : List (Option Held)). attachments_of l) c.in-Ok-write_back.ensures.slots) c.in-Ok-write_back.ensures.flushed)
+    (ap (λ (l : List (Option Held)). attachments_of l) c.in-Ok-write_back.ensures.slots))
 
 pub digest_each-requires-clause-apart : goal.digest_each-requires-clause-apart
 digest_each-requires-clause-apart g c =

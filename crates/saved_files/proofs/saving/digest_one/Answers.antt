@@ -1,17 +1,13 @@
 use Rattle.std.proofs.Common.{sym, ap, ◌∙◌}
 use Rattle.file_traits.specs.Lists.{bytes_of}
 use Rattle.unit_trait.specs.declared.kind.UnitName.{UnitName}
-use Rattle.unit_files.specs.Attachments.{attachments_of, attachment_at, is_disk}
+use Rattle.unit_files.specs.Attachments.{attachments_of, attachment_at}
 use Rattle.unit_files.specs.Digests.{DigestSaid}
 use Rattle.saved_session.specs.Parts.{file_in}
 use Rattle.saved_files.specs.Restoring.{attachment_of}
 use Rattle.saved_files.specs.Saving.{undigested}
 use Rattle.saved_files.proofs.SavingLaws.{digested-so}
 use Rattle.saved_files.proofs.saving.digest_one.Goals as goal
-
-pub digest_unit-requires-clause-clean : goal.digest_unit-requires-clause-clean
-digest_unit-requires-clause-clean g c = λ disk.
-    c.requires.can.clean (ap (λ (u : UnitName). is_disk u.kind) (sym c.unit_of.ensures) ∙ disk)
 
 pub returns-in-Ok-clause-told : goal.returns-in-Ok-clause-told
 returns-in-Ok-clause-told g c = λ t.

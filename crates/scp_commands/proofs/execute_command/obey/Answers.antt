@@ -13,7 +13,7 @@ use Rattle.command_session.specs.Remains.{AreLeft}
 use Rattle.state_commands.specs.StateEffects.{save_reply, restore_reply}
 use Rattle.state_commands.specs.StateAnswers.{PutsSessionBack}
 use Rattle.command_session.specs.LinesLeft.{IsUnlistened, ListenCause}
-use Rattle.command_session.specs.Refusals.{IsUnrefused}
+use Rattle.command_session.specs.Refusals.{IsUnrefused, IsMeasured}
 use Rattle.scp_commands.proofs.BackLemmas.{done-back}
 use Rattle.command_session.proofs.RemainLemmas.{undone-as}
 use Rattle.file_commands.specs.declared.note.Subject.TheVariants as subject
@@ -109,6 +109,13 @@ pub returns-in-Restore-clause-line : goal.returns-in-Restore-clause-line
 returns-in-Restore-clause-line g c = λ some.
     subst (λ (r : Request). LinesAnswer g.L.Lines.tells r c.restore.result (g.L.Lines.state c.args.lines.now) c.args.session.now.machine.lines (g.L.Lines.state c.restore.new.lines) c.restore.new.session.machine.lines)
     (sym (sym c.command.view_is ∙ ap (request_of _) c.in-Restore.is)) (c.restore.ensures.line some)
+
+pub returns-in-Restore-clause-measured : goal.returns-in-Restore-clause-measured
+returns-in-Restore-clause-measured g c =
+    let what = c.in-Restore in
+    let name = c.file_name-in-Restore.result.now in
+    let is = restore-named _ c.command.inside.verb what.force _ c.args.command.now name (sym c.command.view_is) what.is c.file_name-in-Restore.ensures.name in
+    subst (λ (r : Request). IsMeasured g.F.Files.tells r c.restore.result (g.F.Files.state c.args.files.now) (g.F.Files.state c.restore.new.files)) (sym is) c.restore.ensures.measured
 
 pub returns-in-Restore-clause-undone : goal.returns-in-Restore-clause-undone
 returns-in-Restore-clause-undone g c = λ is.

@@ -5,7 +5,9 @@ use Rattle.file_commands.specs.declared.note.Subject.TheVariants as subject
 use Rattle.file_commands.specs.declared.note.FaultNote.{FaultNote}
 use Rattle.file_commands.specs.declared.stamp.Stamp.{Stamp}
 use Rattle.file_commands.proofs.OwnFiles.{own-both, unnoted}
+use Rattle.std.specs.Global.{Vec}
 use Rattle.whole_files.specs.declared.whole.WholeFault.{WholeFault}
+use Rattle.whole_files.specs.Claims.{WholeCause}
 use Rattle.nova_machine.specs.Machine.{MachineState}
 use Rattle.nova_machine.specs.Seen.{seen, beside}
 use Rattle.unit_files.specs.Attachments.{no_attachments}
@@ -35,7 +37,7 @@ use Rattle.command_session.proofs.KeptLemmas.{lines-kept}
 use Rattle.command_session.proofs.OwnFileLemmas.{whole-own}
 use Rattle.state_commands.proofs.RestoreLemmas.{occupied-reply, occupied-seen, unread-by, unfit-by, back-did}
 use Rattle.state_commands.proofs.RestoreLines.{restore-done, restore-refused, restore-unasked, back-ends, refused-by}
-use Rattle.state_commands.proofs.RestoreNotes.{restore-keeps, read-shut-notes, refused-restore-keeps, done-restore-keeps, restore-own, whole-fault, want-fault, no-notes}
+use Rattle.state_commands.proofs.RestoreNotes.{restore-keeps, read-shut-notes, refused-restore-keeps, done-restore-keeps, restore-own, whole-fault, want-fault, want-why, no-notes}
 use Rattle.command_session.proofs.WholeLemmas.{own_both, read-claims, read-keeps, short-read, TakesClosings}
 use Rattle.state_commands.proofs.RestoredCan.{restored-can}
 use Rattle.state_commands.proofs.StateWorkLemmas.{unread-works, unfit-works, refused-works}
@@ -90,6 +92,11 @@ returns-in-Err-clause-undone g c = λ out is.
       live = λ told lines whole. ap (λ (l : List NamedBytes). seen (beside s.watch s.keys l lines) whole s.machine) (read.files told);
     })
 
+pub returns-in-Err-clause-measured : goal.returns-in-Err-clause-measured
+returns-in-Err-clause-measured g c = λ is.
+    subst (λ (b : Result (Vec ℕ) WholeFault). WholeCause g.F.Files.tells c.args.name.now b (g.F.Files.state c.args.files.now) (g.F.Files.state c.read_state_file-read.new.files))
+    (ap bytes_for c.in-Err.ensures.reader ∙ ap Err (want-why c.in-Err.fault (ap Err (sym c.of_whole.ensures) ∙ is))) c.read_state_file-read.ensures.cause
+
 pub returns-in-Err-clause-keeps : goal.returns-in-Err-clause-keeps
 returns-in-Err-clause-keeps g c =
     let s = c.session.inside in
@@ -143,6 +150,11 @@ returns-in-Err-saved_in-clause-undone g c = λ out is.
       lines = refl;
       live = λ told lines whole. ap (λ (l : List NamedBytes). seen (beside s.watch s.keys l lines) whole s.machine) (read.files told);
     })
+
+pub returns-in-Err-saved_in-clause-measured : goal.returns-in-Err-saved_in-clause-measured
+returns-in-Err-saved_in-clause-measured g c = λ is more.
+    subst (λ (b : Result (Vec ℕ) WholeFault). WholeCause g.F.Files.tells c.args.name.now b (g.F.Files.state c.args.files.now) (g.F.Files.state c.read_state_file-read.new.files))
+    (ap bytes_for c.in-Ok.ensures.reader) c.read_state_file-read.ensures.cause
 
 -- ---- the session was put back
 
@@ -298,6 +310,11 @@ returns-clause-undone g c = λ out is.
       lines = ap (λ (m : MachineState). m.lines) set.refused;
       live = λ told lines whole. (λ i. seen (beside (set.unwatched i) s.keys ((set.files told ∙ read.files told) i) lines) whole (set.refused i));
     })
+
+pub returns-clause-measured : goal.returns-clause-measured
+returns-clause-measured g c = λ is more.
+    subst (λ (b : Result (Vec ℕ) WholeFault). WholeCause g.F.Files.tells c.args.name.now b (g.F.Files.state c.args.files.now) (g.F.Files.state c.read_state_file-read.new.files))
+    (ap bytes_for c.in-Ok.ensures.reader) c.read_state_file-read.ensures.cause
 
 pub returns-clause-keeps : goal.returns-clause-keeps
 returns-clause-keeps g c =

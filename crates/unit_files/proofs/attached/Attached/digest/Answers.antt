@@ -28,15 +28,15 @@ pub returns-in-Ok-clause-said : goal.returns-in-Ok-clause-said
 returns-in-Ok-clause-said g c = λ tells.
     let old = g.F.Files.state c.args.files.now in
     let mid = g.F.Files.state c.flush.new.files in
-    let fault = failure_of_digest c.digest_there.result in
+    let fault = failure_of_digest c.digest_unflushed.result in
     let at = attachment_at (attachments_of c.args.self.now.slots) c.args.unit in
     let same = same-at c.args.self.now.slots c.flush.new.self.slots c.args.unit c.in-Ok.ensures.slots in
-    said-behind fault c.args.unit at c.args.self.now.disk c.digest_there.ensures.unwritten c.in-Ok.ensures.said
-    (said_of_digest c.digest_there.result) old.files mid.files c.in-Ok.ensures.files
-    (c.digest_there.ensures.said tells ∙ (λ i. digest_flushed fault (same i) mid.files))
+    said-behind fault c.args.unit at c.args.self.now.disk c.digest_unflushed.ensures.unwritten c.in-Ok.ensures.said
+    (said_of_digest c.digest_unflushed.result) old.files mid.files c.in-Ok.ensures.files
+    (c.digest_unflushed.ensures.said tells ∙ (λ i. digest_flushed fault (same i) mid.files))
 
 pub returns-in-Ok-clause-files : goal.returns-in-Ok-clause-files
 returns-in-Ok-clause-files g c =
-    c.digest_there.ensures.files
+    c.digest_unflushed.ensures.files
     ∙ c.in-Ok.ensures.files
-    ∙ sym (same-files (failure_of_digest c.digest_there.result) c.args.unit _ _ _ c.digest_there.ensures.unwritten)
+    ∙ sym (same-files (failure_of_digest c.digest_unflushed.result) c.args.unit _ _ _ c.digest_unflushed.ensures.unwritten)

@@ -3,7 +3,7 @@ use Rattle.unit_files.specs.Digests.{failure_of_digest}
 use Rattle.unit_files.specs.View.{HoldsFile}
 use Rattle.unit_files.proofs.Digests.{flushed-file}
 use Rattle.unit_files.proofs.Opened.{file-of}
-use Rattle.unit_files.proofs.attached.Attached.digest_there.Goals as goal
+use Rattle.unit_files.proofs.attached.Attached.digest_unflushed.Goals as goal
 
 pub digest_file-requires : goal.digest_file-requires
 digest_file-requires g c =
