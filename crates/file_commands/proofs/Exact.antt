@@ -1,30 +1,11 @@
 -- Notes that are just as many as the counts of files have risen, over two spans, and of one call.
-use Rattle.std.proofs.Common.{◌≡◌, ◌⊎◌, inl, inr, ℕ, zero, suc, ◌+◌, ◌<◌, ◌≤◌, Bool, true, false, IsTrue, List, [], ◌∷◌, ◌++◌, Option, Some, None, nat_lt, refl, ap, sym, ◌∙◌, subst, arith}
-use Rattle.std.proofs.lemmas.Bool.Decides.{nat_tests}
-use Rattle.fault_counts.specs.Faults.{raised}
+use Rattle.std.proofs.Common.{◌≡◌, ℕ, ◌≤◌, Bool, true, false, IsTrue, List, [], ◌++◌, refl, ap, sym, ◌∙◌, arith}
 use Rattle.file_traits.specs.State.{FileState}
 use Rattle.whole_files.specs.Claims.{raised_by}
-use Rattle.unit_files.specs.Causes.{IsNewId, AtMostOnceMore, IsQuiet}
+use Rattle.unit_files.specs.Causes.{IsNewId, IsQuiet}
 use Rattle.file_commands.specs.declared.note.FaultNote.{FaultNote}
 use Rattle.file_commands.specs.Counts.{noted, AreAll, AreExact}
 use Rattle.file_commands.proofs.Adding.{noted-append, raised-both}
-
--- ---- counts
-
-raised-next : (n count : ℕ) → raised_by n (raised count) ≡ raised (raised_by n count)
-raised-next zero count = refl
-raised-next (suc n) count = ap raised (raised-next n count)
-
--- at most once more, and then by so much
-once-then : (m n before mid now : ℕ) → AtMostOnceMore (raised_by m before) mid → now ≡ raised_by n mid → AtMostOnceMore (raised_by (m + n) before) now
-once-then m n before mid now (inl same) is = inl (is ∙ ap (raised_by n) same ∙ sym (raised-both m n before))
-once-then m n before mid now (inr more) is =
-    inr (is ∙ ap (raised_by n) more ∙ raised-next n (raised_by m before) ∙ ap raised (sym (raised-both m n before)))
-
--- by so much, and then at most once more
-then-once : (m n before mid now : ℕ) → mid ≡ raised_by m before → AtMostOnceMore (raised_by n mid) now → AtMostOnceMore (raised_by (m + n) before) now
-then-once m n before mid now is once =
-    subst (λ (x : ℕ). AtMostOnceMore x now) (ap (raised_by n) is ∙ sym (raised-both m n before)) once
 
 -- ---- two spans
 
@@ -44,23 +25,10 @@ exact-both gives first second old mid new a b = record {
   files = λ file none.
       b.files file (earlier-none gives old mid new file a.ids none) ∙ ap (raised_by (noted file second)) (a.files file (later-none gives old mid new file b.ids none))
       ∙ sym (raised-both (noted file first) (noted file second) (old.faults file)) ∙ sym (ap (λ (n : ℕ). raised_by n (old.faults file)) (noted-append file first second));
-  given_back = λ file.
-      subst (λ (n : ℕ). AtMostOnceMore (raised_by n (old.faults file)) (new.faults file)) (sym (noted-append file first second)) (by file (nat_lt file mid.given) refl);
   ids = let one = a.ids in let two = b.ids in omega (arith, one, two);
 }
-  where
-    by : (file : ℕ) (is_first : Bool) → nat_lt file mid.given ≡ is_first → AtMostOnceMore (raised_by (noted file first + noted file second) (old.faults file)) (new.faults file)
-    by file true is =
-        let below : file < mid.given = grind (arith, nat_tests) in
-        once-then (noted file first) (noted file second) (old.faults file) (mid.faults file) (new.faults file) (a.given_back file)
-        (b.files file (λ gives fresh. let from = fresh.0 in absurd (omega (arith, below, from))))
-    by file false is =
-        let from : mid.given ≤ file = grind (arith, nat_tests) in
-        then-once (noted file first) (noted file second) (old.faults file) (mid.faults file) (new.faults file)
-        (a.files file (λ gives fresh. let below = fresh.1 in absurd (omega (arith, below, from)))) (b.given_back file)
-
 pub exact-none : (gives : Bool) (s : FileState) → AreExact gives [] s s
-exact-none gives s = record { files = λ file none. refl; given_back = λ file. inl refl; ids = omega arith }
+exact-none gives s = record { files = λ file none. refl; ids = omega arith }
 
 -- ---- one call
 
@@ -68,7 +36,6 @@ exact-none gives s = record { files = λ file none. refl; given_back = λ file. 
 pub exact-kept : (gives : Bool) (notes : List FaultNote) (old new : FileState) → AreExact false notes old new → AreExact gives notes old new
 exact-kept gives notes old new a = record {
   files = λ file none. a.files file (λ is. absurd (cc));
-  given_back = a.given_back;
   ids = a.ids;
 }
 
@@ -78,7 +45,7 @@ exact-every false notes old new a = exact-kept true notes old new a
 
 pub exact-when : (gives : Bool) (notes : List FaultNote) (old new : FileState) → ((file : ℕ) → new.faults file ≡ raised_by (noted file notes) (old.faults file)) → old.given ≤ new.given
     → AreExact gives notes old new
-exact-when gives notes old new all later = record { files = λ file none. all file; given_back = λ file. inl (all file); ids = later }
+exact-when gives notes old new all later = record { files = λ file none. all file; ids = later }
 
 pub exact-all : (gives : Bool) (notes : List FaultNote) (old new : FileState) → AreAll notes old new → AreExact gives notes old new
 exact-all gives notes old new all = exact-when gives notes old new all.files (let same = all.ids in omega (arith, same))

@@ -4,7 +4,7 @@ use Rattle.std.specs.List.{AllByRecursion}
 use Rattle.file_traits.specs.declared.files.FileId.{FileId}
 use Rattle.file_traits.specs.State.{FileState}
 use Rattle.whole_files.specs.Claims.{raised_by}
-use Rattle.unit_files.specs.Causes.{IsNewId, AtMostOnceMore}
+use Rattle.unit_files.specs.Causes.{IsNewId}
 use Rattle.file_commands.specs.declared.note.FaultNote.{FaultNote}
 use Rattle.file_commands.specs.Possible.{IsPossible}
 
@@ -48,9 +48,8 @@ pub record AreAll (notes : List FaultNote) (old new : FileState) : Type 0 where
   pub openings : new.open_faults ≡ old.open_faults
   pub ids : new.given ≡ old.given
 
--- Each count of a file has risen by just as many as the notes of that file are. A command that gives files back closes such
--- as it has opened, and their closings have no note: where one of these failed, that count has risen by one more.
+-- Each count of a file has risen by just as many as the notes of that file are. A refusal may give files back: it closes such
+-- as were opened in that very call, and these closings have no note.
 pub record AreExact (gives_back : Bool) (notes : List FaultNote) (old new : FileState) : Type 0 where
   pub files : (file : ℕ) → (IsTrue gives_back → IsNewId old new file → ⊥) → new.faults file ≡ raised_by (noted file notes) (old.faults file)
-  pub given_back : (file : ℕ) → AtMostOnceMore (raised_by (noted file notes) (old.faults file)) (new.faults file)
   pub ids : old.given ≤ new.given
