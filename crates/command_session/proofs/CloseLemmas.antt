@@ -34,7 +34,9 @@ use Rattle.command_session.specs.declared.next.Next.TheVariants.{Go, Exit}
 use Rattle.command_session.specs.Live.{Live, Standing, standing, with_attached, numberless}
 use Rattle.command_session.specs.Reply.{Reply, bare_answer}
 use Rattle.command_session.specs.FileEffects.{filed_in, emptied_all, left_by, unported_by, filed_live, emptied_live, kept_answer, emptied_reply}
-use Rattle.command_session.specs.Doing.{IsLastCall, ComeBehind, IsStamped, IsRefusalOf, IsClosingOf, AreRefusalOf, AllClosings, FileCause, ClosesFiles, Closes, Keeps, Does, IsSaid, Did}
+use Rattle.command_session.specs.Doing.{IsLastCall, ComeBehind, IsStamped, IsRefusalOf, IsClosingOf, AreRefusalOf, AllClosings, FileCause, ClosesFiles, Closes, Keeps, is_missing, Does, IsSaid, Did}
+use Rattle.file_commands.proofs.Exact.{exact-all}
+use Rattle.command_session.proofs.CountedLemmas.{openings-none}
 use Rattle.command_session.proofs.SeenLemmas.{attached-erased, attached-numberless, unnumbered-is, seen-with}
 
 -- ---- units with one name are one
@@ -517,9 +519,15 @@ keeps-of number time now tells from to k before after old new at e =
       stamped = subst (λ (t : ℕ). AllByRecursion (IsStamped number t) e.kept) at
           (stamped number time attachable from.disk.written from.attached e.kept e.own e.said (are-of time attachable from e.own used));
       counted = e.counted;
+      exact = exact-all false e.kept old new e.all;
+      openings = openings-none tells (kept_answer k Go) e.kept old new (there k) e.all.openings e.counted;
       cause = by-keeper k e;
     }
   where
+    there : (k : Option UnitName) → is_missing (kept_answer k Go) ≡ false
+    there None = refl
+    there (Some u) = refl
+
     refusal : (kept : List FaultNote) (n : CommandNote) (u : UnitName) → notes_said kept ≡ numbered number (n ∷ []) → n.subject ≡ subject.Unit u → n.failure.call ≡ Write → AreRefusalOf (subject.Unit u) kept
     refusal [] n u said of call = absurd (cc)
     refusal (x ∷ y ∷ kept) n u said of call = absurd (cc)
@@ -542,7 +550,7 @@ keeps-of number time now tells from to k before after old new at e =
 pub keeps-exit : (number time status : ℕ) (tells : Bool) (k : Option UnitName) (before after : List FaultNote) (old new : FileState) → Keeps number time tells (kept_answer k Go) before after old new
     → Keeps number time tells (kept_answer k (Exit status)) before after old new
 keeps-exit number time status tells None before after old new k =
-    record { kept = k.kept; added = k.added; few = k.few; stamped = k.stamped; counted = k.counted; cause = k.cause }
+    record { kept = k.kept; added = k.added; few = k.few; stamped = k.stamped; counted = k.counted; exact = k.exact; openings = k.openings; cause = k.cause }
 keeps-exit number time status tells (Some u) before after old new k = k
 
 -- ---- where none has kept its file, nothing is attached, so no note comes behind

@@ -1,14 +1,17 @@
 -- A command that keeps no note, and one that does nothing to the lines.
-use Rattle.std.proofs.Common.{◌≡◌, ℕ, Bool, List, [], Ok, Err, refl, sym, ◌∙◌, subst, append-nil, arith}
+use Rattle.std.proofs.Common.{◌≡◌, ℕ, ◌+◌, ◌&&◌, not, Bool, false, List, [], Ok, Err, refl, sym, ◌∙◌, subst, append-nil, arith}
 use Rattle.file_traits.specs.State.{FileState}
 use Rattle.file_commands.specs.declared.note.FaultNote.{FaultNote}
+use Rattle.whole_files.specs.Claims.{raised_by}
+use Rattle.file_commands.specs.Counts.{one_if}
 use Rattle.file_commands.proofs.Adding.{counted-none}
+use Rattle.file_commands.proofs.Exact.{exact-none}
 use Rattle.nova_machine.specs.declared.machine.Stop.TheVariants.{ConsoleFault, FileFault}
 use Rattle.command_session.specs.declared.next.Next.TheVariants.{Ran}
 use Rattle.command_session.specs.declared.fault.CommandFault.TheVariants.{Console, OutOfMemory, NoFile, FileTooLong, FileFailed}
 use Rattle.command_session.specs.declared.fault.CommandFault.TheVariants.{LoadTruncated, LoadSum, PastMemory, NotState, Version, BadDigest, BadField, Truncated, Changed}
 use Rattle.command_session.specs.Reply.{Answer}
-use Rattle.command_session.specs.Doing.{FileCause, Keeps, IsOfPort}
+use Rattle.command_session.specs.Doing.{FileCause, Keeps, IsOfPort, is_missing}
 use Rattle.host_lines.specs.State.{LineState}
 use Rattle.telnet_lines.specs.Line.{LineOf}
 use Rattle.command_session.specs.LinesLeft.{LinesLeft}
@@ -35,9 +38,16 @@ keeps-none number time tells answer notes notes' state none own = record {
   few = omega arith;
   stamped = tt;
   counted = counted-none state;
+  exact = exact-none false state;
+  openings = no-opening answer own;
   cause = cause answer own;
 }
   where
+    no-opening : (answer : Answer) → IsOfNoFile answer → state.open_faults ≡ raised_by (0 + one_if (is_missing answer && not tells)) state.open_faults
+    no-opening (Err NoFile) own = absurd own
+    no-opening (Err fault) own = refl
+    no-opening (Ok next) own = refl
+
     cause : (answer : Answer) → IsOfNoFile answer → FileCause (record { command = number; time = time }) tells answer [] state state
     cause (Err NoFile) own = absurd own
     cause (Err (FileFailed who)) own = absurd own

@@ -20,8 +20,9 @@ use Rattle.file_commands.specs.declared.note.FaultNote.{FaultNote}
 use Rattle.file_commands.specs.Notes.{CommandNote, Note, same_subject, numbered, notes_said}
 use Rattle.file_commands.specs.Possible.{IsWritten, MayHaveWritten, IsPossible}
 use Rattle.file_commands.proofs.Possible.{none-done}
-use Rattle.file_commands.specs.Counts.{is_of, is_opening, one_if, noted, openings_noted, RoseBy, AreCounted}
+use Rattle.file_commands.specs.Counts.{is_of, is_opening, one_if, noted, openings_noted, RoseBy, AreCounted, AreExact}
 use Rattle.file_commands.proofs.Causes.{rose-one}
+use Rattle.file_commands.proofs.Exact.{exact-when}
 use Rattle.file_commands.specs.declared.stamp.Stamp.{Stamp}
 use Rattle.whole_files.specs.declared.whole.FailedCall.{FailedCall}
 use Rattle.whole_files.specs.declared.whole.Whole.{Whole}
@@ -35,12 +36,13 @@ use Rattle.whole_files.specs.Claims.{WholeCause}
 use Rattle.whole_files.specs.Writing.{FailingCall, WriteSaid, AllWritten, WriteFailed, WriteAct, write_act, said_of_writing, failing_call}
 use Rattle.whole_files.specs.Writing.{claimed_in_writing, is_failed_writing, ComesBeforeClosing, WasNotOpened, HasWriteShape, is_unmade}
 use Rattle.nova_machine.specs.Comes.{Output}
-use Rattle.command_session.specs.declared.fault.CommandFault.TheVariants.{OutOfMemory}
+use Rattle.command_session.specs.declared.fault.CommandFault.TheVariants.{NoFile, OutOfMemory}
 use Rattle.command_session.specs.Live.{Live, standing}
 use Rattle.command_session.specs.Reply.{Answer, Reply}
 use Rattle.command_session.specs.WholeCalls.{is_of_whole, whole_calls, write_calls, said_answer, whole_answer, wrote_answer, written_answer}
 use Rattle.command_session.specs.WholeCalls.{call_note, call_notes, both_notes, read_notes, write_notes}
 use Rattle.command_session.specs.Refusals.{UnreadCause}
+use Rattle.command_session.specs.Doing as doing
 use Rattle.command_session.specs.Doing.{Does, Did, ComeBehind, IsStamped, IsClosingOf, AllClosings, FileCause, Keeps, IsShutNote, NotesRemain, IsPlain, IsOwn, IsExitAnswer}
 use Rattle.command_session.proofs.CloseLemmas.{said-append, refused-first}
 use Rattle.command_session.proofs.ReplyLemmas.{silent-does}
@@ -462,6 +464,7 @@ rose-opening false false before now is = (omega (arith, is), inl (omega (arith, 
 pub record Rises (missing : Bool) (failed closing : Option FailedCall) (old new : FileState) : Type 0 where
   pub counts : (file : ℕ) → new.faults file ≡ raised_by (claims_of failed file + claims_of closing file) (old.faults file)
   pub openings : new.open_faults ≡ (if claims.is_opening failed || missing then raised old.open_faults else old.open_faults)
+  pub ids : old.given ≤ new.given
 
 -- what a call before the closing can have written, of a reading and of a writing
 pub possible-read : (whose : Subject) (failed : Option FailedCall) → IfSome failed (λ (f : FailedCall). MayHaveWritten f.call whose 0)
@@ -499,6 +502,74 @@ both-counted whose stamp done missing failed closing old new shape early rises =
       (rose-opening (claims.is_opening failed) missing old.open_faults new.open_faults rises.openings);
   possible = possible-both whose stamp done failed closing early;
 }
+
+-- and no call that failed is without a note
+both-exact : (whose : Subject) (stamp : Stamp) (done : ℕ) (missing : Bool) (failed closing : Option FailedCall) (old new : FileState) → Rises missing failed closing old new
+    → AreExact false (both_notes whose stamp done failed closing) old new
+both-exact whose stamp done missing failed closing old new rises =
+    exact-when false (both_notes whose stamp done failed closing) old new
+    (λ file. rises.counts file ∙ ap (λ (n : ℕ). raised_by n (old.faults file)) (sym (both-noted whose stamp done file failed closing))) rises.ids
+
+-- an opening that failed is one, and so is one of a file that is missing; it is never both
+opening-by : (failed missing : Bool) (noted before now : ℕ) → (failed ≡ true → missing ≡ false) → noted ≡ one_if failed
+    → now ≡ (if failed || missing then raised before else before) → now ≡ raised_by (noted + one_if missing) before
+opening-by true true noted before now one many is = absurd (let e : true ≡ false = one refl in cc)
+opening-by true false noted before now one many is =
+    let all : noted + 0 ≡ 1 = omega (arith, many) in
+    is ∙ ap (λ (n : ℕ). raised_by n before) (sym all)
+opening-by false true noted before now one many is =
+    let all : noted + 1 ≡ 1 = omega (arith, many) in
+    is ∙ ap (λ (n : ℕ). raised_by n before) (sym all)
+opening-by false false noted before now one many is =
+    let all : noted + 0 ≡ 0 = omega (arith, many) in
+    is ∙ ap (λ (n : ℕ). raised_by n before) (sym all)
+
+both-openings : (whose : Subject) (stamp : Stamp) (done : ℕ) (missing missing' : Bool) (failed closing : Option FailedCall) (old new : FileState) → IsClaimed failed closing
+    → missing' ≡ missing → (claims.is_opening failed ≡ true → missing ≡ false) → Rises missing failed closing old new
+    → new.open_faults ≡ raised_by (openings_noted (both_notes whose stamp done failed closing) + one_if missing') old.open_faults
+both-openings whose stamp done missing missing' failed closing old new shape same one rises =
+    subst (λ (b : Bool). new.open_faults ≡ raised_by (openings_noted (both_notes whose stamp done failed closing) + one_if b) old.open_faults) (sym same)
+    (opening-by (claims.is_opening failed) missing (openings_noted (both_notes whose stamp done failed closing)) old.open_faults new.open_faults one
+    (openings-are whose stamp done failed closing shape) rises.openings)
+
+-- what is not missing takes a closing's note
+abbrev a-closing : List FaultNote
+a-closing = record { command = 0; time = 0; subject = subject.Script; file = None; call = call.Closing; done = 0 } ∷ []
+
+not-missing : (stamp : Stamp) (tells : Bool) (answer : Answer) (old new : FileState) → ((kept : List FaultNote) → AllClosings kept → FileCause stamp tells answer kept old new)
+    → doing.is_missing answer ≡ false
+not-missing stamp tells (Err NoFile) old new takes = absurd (let none = (takes a-closing (refl, tt)).0 in cc)
+not-missing stamp tells (Err why) old new takes = refl
+not-missing stamp tells (Ok next) old new takes = refl
+
+missing-read : (whose : Subject) (comes_to : List ℕ → Answer) (bytes : Result (Vec ℕ) WholeFault) → ((read : List ℕ) → doing.is_missing (comes_to read) ≡ false)
+    → doing.is_missing (whole_answer whose comes_to bytes) ≡ is_missing bytes
+missing-read whose comes_to (Ok v) other = other v.items
+missing-read whose comes_to (Err fault.NoFile) other = refl
+missing-read whose comes_to (Err fault.TooLong) other = refl
+missing-read whose comes_to (Err fault.Failed) other = refl
+missing-read whose comes_to (Err fault.OutOfMemory) other = refl
+
+missing-written : (whose : Subject) (answer : Result (Unit {0}) WholeFault) → doing.is_missing (written_answer whose answer) ≡ is_unmade answer
+missing-written whose (Ok u) = refl
+missing-written whose (Err fault.NoFile) = refl
+missing-written whose (Err fault.TooLong) = refl
+missing-written whose (Err fault.Failed) = refl
+missing-written whose (Err fault.OutOfMemory) = refl
+
+one-read : (tells : Bool) (bytes : Result (Vec ℕ) WholeFault) (failed : Option FailedCall) → is_some failed ≡ is_failed bytes → claims.is_opening failed ≡ true
+    → (is_missing bytes && not tells) ≡ false
+one-read tells bytes None is opening = absurd (cc)
+one-read tells (Err fault.NoFile) (Some f) is opening = absurd (cc)
+one-read tells (Err why) (Some f) is opening = refl
+one-read tells (Ok v) (Some f) is opening = refl
+
+one-write : (tells : Bool) (answer : Result (Unit {0}) WholeFault) (failed : Option FailedCall) → is_some failed ≡ is_failed_writing answer → claims.is_opening failed ≡ true
+    → (is_unmade answer && not tells) ≡ false
+one-write tells answer None is opening = absurd (cc)
+one-write tells (Err fault.NoFile) (Some f) is opening = absurd (cc)
+one-write tells (Err why) (Some f) is opening = refl
+one-write tells (Ok u) (Some f) is opening = refl
 
 -- ---- the cause
 
@@ -578,6 +649,11 @@ read-keeps whose number time tells comes_to w answer notes notes' old new takes 
   few = few-both whose stamp 0 w.failed w.closing;
   stamped = stamped-both whose number time 0 w.failed w.closing;
   counted = both-counted whose stamp 0 _ w.failed w.closing old new (read-claims w shape) (possible-read whose w.failed) rises;
+  exact = both-exact whose stamp 0 _ w.failed w.closing old new rises;
+  openings =
+      both-openings whose stamp 0 (is_missing w.bytes && not tells) (doing.is_missing answer && not tells) w.failed w.closing old new (read-claims w shape)
+      (ap (λ (b : Bool). b && not tells) (ap doing.is_missing answered ∙ missing-read whose comes_to w.bytes (λ bytes. not-missing stamp tells (comes_to bytes) old new (takes bytes))))
+      (one-read tells w.bytes w.failed shape.failed) rises;
   cause =
       subst (λ (a : Answer). FileCause stamp tells a (read_notes whose stamp w) old new) (sym answered)
       (read-cause whose stamp tells comes_to w old new takes shape rises);
@@ -621,6 +697,10 @@ write-keeps whose number time tells piece w answer notes notes' old new answered
   counted =
       both-counted whose stamp w.done _ w.failed w.closing old new (write-claims piece w shape) (possible-write whose w.done w.failed written shape.before)
       rises;
+  exact = both-exact whose stamp w.done _ w.failed w.closing old new rises;
+  openings =
+      both-openings whose stamp w.done (is_unmade w.answer && not tells) (doing.is_missing answer && not tells) w.failed w.closing old new (write-claims piece w shape)
+      (ap (λ (b : Bool). b && not tells) (ap doing.is_missing answered ∙ missing-written whose w.answer)) (one-write tells w.answer w.failed shape.failed) rises;
   cause =
       subst (λ (a : Answer). FileCause stamp tells a (write_notes whose stamp w) old new) (sym answered)
       (write-cause whose stamp tells piece w old new shape rises);

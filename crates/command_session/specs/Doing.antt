@@ -1,6 +1,6 @@
 -- What a call comes to that does a command: on a console that had and has these bytes, with callers of lines that had and
 -- have heard these, and with the notes that it kept.
-use Rattle.std.specs.Prelude.{◌≡◌, ℕ, ◌≤◌, ◌<◌, Bool, true, IsTrue, List, [], ◌∷◌, ◌++◌, length, Option, is_some, Result, Ok, Err, false, if◌then◌else◌, Some, None}
+use Rattle.std.specs.Prelude.{◌≡◌, ℕ, ◌≤◌, ◌<◌, ◌+◌, ◌&&◌, not, Bool, true, IsTrue, List, [], ◌∷◌, ◌++◌, length, Option, is_some, Result, Ok, Err, false, if◌then◌else◌, Some, None}
 use Rattle.std.specs.List.{AllByRecursion, list_any}
 use Rattle.fault_counts.specs.Faults.{raised, Rose}
 use Rattle.observations.specs.Observations.{text_of, sent_of, StandsAt}
@@ -23,7 +23,8 @@ use Rattle.file_commands.specs.declared.note.Subject.{Subject}
 use Rattle.file_commands.specs.declared.note.Subject.TheVariants as subject
 use Rattle.file_commands.specs.declared.note.FaultNote.{FaultNote}
 use Rattle.file_commands.specs.Notes.{CommandNote, Note, numbered, notes_said}
-use Rattle.file_commands.specs.Counts.{AreCounted}
+use Rattle.whole_files.specs.Claims.{raised_by}
+use Rattle.file_commands.specs.Counts.{one_if, openings_noted, AreCounted, AreExact}
 use Rattle.file_commands.specs.OwnFiles.{AreOwn}
 use Rattle.file_commands.specs.declared.stamp.Stamp.{Stamp}
 use Rattle.file_commands.specs.Kept.{fault_note}
@@ -180,15 +181,52 @@ RestoreFileCause stamp tells answer kept old new = FileCause stamp tells answer 
 abbrev pub IsStamped : ℕ → ℕ → FaultNote → Type 0
 IsStamped number time n = (n.command ≡ number) × (n.time ≡ time)
 
+-- ---- no failed call without a note
+
+-- Whether a file that was opened may have been given back: ATTACH and RESTORE answer so behind an opening that succeeded.
+abbrev pub gives_back : Answer → Bool
+gives_back (Err NoFile) = true
+gives_back (Err FileTooLong) = true
+gives_back (Err (FileFailed who)) = true
+gives_back (Err (Changed unit)) = true
+gives_back (Err PortFailed) = true
+gives_back (Err OutOfMemory) = true
+gives_back answer = false
+
+-- whether a file is missing
+abbrev pub is_missing : Answer → Bool
+is_missing (Err NoFile) = true
+is_missing answer = false
+
+-- The count of openings has risen by just as many as the notes of openings are, and by one more where a file is missing of
+-- files that tell nothing. What ATTACH and RESTORE open for a unit is tried in more than one mode, or is more than one file.
+abbrev pub OpeningsAre : Bool → Bool → Answer → List FaultNote → FileState → FileState → Type 0
+OpeningsAre true tells answer kept old new = Unit {0}
+OpeningsAre false tells answer kept old new =
+    new.open_faults ≡ raised_by (openings_noted kept + one_if (is_missing answer && not tells)) old.open_faults
+
+-- whether that attaches a file to a unit: ATTACH or RESTORE
+abbrev pub attaches_file : Request → Bool
+attaches_file (Attach option unit name) = true
+attaches_file (Restore force name) = true
+attaches_file request = false
+
 -- The notes that were kept are those of calls that failed just now: they have the command's number and the time at which
--- the machine stands, they are at most as many as the counts rose, and they are why a file was refused.
-pub record Keeps (number time : ℕ) (tells : Bool) (answer : Answer) (notes notes' : List FaultNote) (old new : FileState) : Type 0 where
+-- the machine stands, there is just one for each such call, but for those of files that were given back, and they are why
+-- a file was refused.
+pub record KeepsAs (attaches : Bool) (number time : ℕ) (tells : Bool) (answer : Answer) (notes notes' : List FaultNote) (old new : FileState) : Type 0 where
   pub kept : List FaultNote
   pub added : notes' ≡ notes ++ kept
   pub few : length kept ≤ 16
   pub stamped : AllByRecursion (IsStamped number time) kept
   pub counted : AreCounted kept old new
+  pub exact : AreExact (attaches && gives_back answer) kept old new
+  pub openings : OpeningsAre attaches tells answer kept old new
   pub cause : FileCause (record { command = number; time = time }) tells answer kept old new
+
+-- those of a command that attaches no file: each note stands for a call that failed, and no such call is without one
+abbrev pub Keeps : ℕ → ℕ → Bool → Answer → List FaultNote → List FaultNote → FileState → FileState → Type 0
+Keeps number time tells answer notes notes' old new = KeepsAs false number time tells answer notes notes' old new
 
 -- whether that is RESTORE
 abbrev pub is_restore : Request → Bool
@@ -205,12 +243,14 @@ CauseBy true stamp tells answer kept old new = RestoreFileCause stamp tells answ
 CauseBy false stamp tells answer kept old new = FileCause stamp tells answer kept old new
 
 -- the notes of any command
-pub record KeepsBy (restores : Bool) (number before now : ℕ) (tells : Bool) (answer : Answer) (notes notes' : List FaultNote) (old new : FileState) : Type 0 where
+pub record KeepsBy (restores attaches : Bool) (number before now : ℕ) (tells : Bool) (answer : Answer) (notes notes' : List FaultNote) (old new : FileState) : Type 0 where
   pub kept : List FaultNote
   pub added : notes' ≡ notes ++ kept
   pub few : length kept ≤ 16
   pub stamped : AllByRecursion (IsStamped number (note_time restores before now)) kept
   pub counted : AreCounted kept old new
+  pub exact : AreExact (attaches && gives_back answer) kept old new
+  pub openings : OpeningsAre attaches tells answer kept old new
   pub cause : CauseBy restores (record { command = number; time = note_time restores before now }) tells answer kept old new
 
 -- The console's count of faults rises by one where the answer is that it refused a byte, and stands still with every

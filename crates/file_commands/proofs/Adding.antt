@@ -53,7 +53,7 @@ raised-behind (suc more) faults count =
     let next : suc more + faults ≡ suc (more + faults) = omega arith in
     ap (λ (n : ℕ). raised_by n count) next ∙ ap raised (raised-behind more faults count)
 
-raised-both : (faults more count : ℕ) → raised_by (faults + more) count ≡ raised_by more (raised_by faults count)
+pub raised-both : (faults more count : ℕ) → raised_by (faults + more) count ≡ raised_by more (raised_by faults count)
 raised-both faults more count =
     let turned : faults + more ≡ more + faults = omega arith in
     ap (λ (n : ℕ). raised_by n count) turned ∙ raised-behind more faults count
@@ -63,7 +63,8 @@ all-both first second old mid new a b = record {
   files = λ file. b.files file ∙ ap (raised_by (noted file second)) (a.files file) ∙ sym (raised-both (noted file first) (noted file second) (old.faults file))
       ∙ sym (ap (λ (n : ℕ). raised_by n (old.faults file)) (noted-append file first second));
   openings = b.openings ∙ a.openings;
+  ids = b.ids ∙ a.ids;
 }
 
 pub all-none : (s : FileState) → AreAll [] s s
-all-none s = record { files = λ file. refl; openings = refl }
+all-none s = record { files = λ file. refl; openings = refl; ids = refl }

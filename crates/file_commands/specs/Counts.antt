@@ -1,9 +1,10 @@
 -- Notes are at most as many as the counts of faults have risen, and each is one that its call can leave.
-use Rattle.std.specs.Prelude.{◌≡◌, ◌⊎◌, ℕ, ◌+◌, ◌-◌, ◌^◌, ◌≤◌, ◌==◌, Bool, true, false, List, [], ◌∷◌, Option, Some, None}
+use Rattle.std.specs.Prelude.{◌≡◌, ◌⊎◌, ℕ, ◌+◌, ◌-◌, ◌^◌, ◌≤◌, ◌==◌, Bool, true, false, IsTrue, List, [], ◌∷◌, Option, Some, None}
 use Rattle.std.specs.List.{AllByRecursion}
 use Rattle.file_traits.specs.declared.files.FileId.{FileId}
 use Rattle.file_traits.specs.State.{FileState}
 use Rattle.whole_files.specs.Claims.{raised_by}
+use Rattle.unit_files.specs.Causes.{IsNewId}
 use Rattle.file_commands.specs.declared.note.FaultNote.{FaultNote}
 use Rattle.file_commands.specs.Possible.{IsPossible}
 
@@ -40,8 +41,15 @@ pub record AreCounted (notes : List FaultNote) (old new : FileState) : Type 0 wh
   pub openings : RoseBy (openings_noted notes) old.open_faults new.open_faults
   pub possible : AllByRecursion IsPossible notes
 
--- Each count of a file has risen by just as many as the notes of that file are, and no opening has failed: a note stands for
--- each call that failed.
+-- Each count of a file has risen by just as many as the notes of that file are, no opening has failed, and none was made: a
+-- note stands for each call that failed.
 pub record AreAll (notes : List FaultNote) (old new : FileState) : Type 0 where
   pub files : (file : ℕ) → new.faults file ≡ raised_by (noted file notes) (old.faults file)
   pub openings : new.open_faults ≡ old.open_faults
+  pub ids : new.given ≡ old.given
+
+-- Each count of a file has risen by just as many as the notes of that file are. A refusal may give files back: it closes such
+-- as were opened in that very call, and these closings have no note.
+pub record AreExact (gives_back : Bool) (notes : List FaultNote) (old new : FileState) : Type 0 where
+  pub files : (file : ℕ) → (IsTrue gives_back → IsNewId old new file → ⊥) → new.faults file ≡ raised_by (noted file notes) (old.faults file)
+  pub ids : old.given ≤ new.given

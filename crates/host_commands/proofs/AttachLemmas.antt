@@ -1,10 +1,14 @@
 -- A file is opened for a unit: what ATTACH comes to.
-use Rattle.std.proofs.Common.{◌≡◌, ℕ, ◌≤◌, ◌==◌, ◌&&◌, ◌||◌, not, Bool, true, false, List, [], ◌∷◌, ◌++◌, length, Option, Some, None, IfSome, is_none, nat_lt, Result, Ok, Err}
+use Rattle.std.proofs.Common.{◌≡◌, ℕ, ◌+◌, ◌<◌, ◌≤◌, ◌==◌, ◌&&◌, ◌||◌, not, Bool, true, false, IsTrue, List, [], ◌∷◌, ◌++◌, length, Option, Some, None, IfSome, is_none, nat_lt, Result, Ok, Err}
 use Rattle.std.proofs.Common.{inl, inr, refl, ap, sym, ◌∙◌, subst, if◌then◌else◌, append-nil, arith}
 use Rattle.std.specs.List.{AllByRecursion}
 use Rattle.std.proofs.Math.Path.{subst₃}
 use Rattle.file_traits.specs.Lists.{NamedBytes, bytes_of}
 use Rattle.file_traits.specs.State.{FileState}
+use Rattle.file_traits.specs.declared.files.FileId.{FileId}
+use Rattle.whole_files.specs.Claims.{raised_by}
+use Rattle.unit_files.specs.Causes.{IsNewId, AttachCause}
+use Rattle.std.proofs.lemmas.Bool.Decides.{nat_tests}
 use Rattle.host_lines.specs.Traffic.{Answer as LineAnswer}
 use Rattle.host_lines.specs.State.{LineState}
 use Rattle.file_traits.specs.declared.files.FileCall.{FileCall}
@@ -27,7 +31,7 @@ use Rattle.file_commands.specs.declared.note.Subject.{Subject}
 use Rattle.file_commands.specs.declared.note.Subject.TheVariants as subject
 use Rattle.file_commands.specs.declared.note.FaultNote.{FaultNote}
 use Rattle.file_commands.specs.Notes.{CommandNote, Note, same_subject, numbered, failure_now, notes_said}
-use Rattle.file_commands.specs.Counts.{AreCounted}
+use Rattle.file_commands.specs.Counts.{is_of, one_if, noted, AreCounted, AreExact}
 use Rattle.file_commands.specs.declared.stamp.Stamp.{Stamp}
 use Rattle.file_commands.specs.Kept.{fault_note, IsAttachFault, MissingCause, fault_of_attach, kept_of, own_of, own_note}
 use Rattle.expect_actions.specs.Watch.{WatchState}
@@ -41,7 +45,7 @@ use Rattle.command_session.specs.Live.{Live, standing}
 use Rattle.command_session.specs.Reply.{Answer, Reply, refused}
 use Rattle.command_session.specs.FaultText.{attach_fault}
 use Rattle.command_session.specs.FileEffects.{has_files, lacks_unit, mode_of, attach_answer, attach_used, first_place, positioned, attached_machine, attach_with, attach_reply}
-use Rattle.command_session.specs.Doing.{Does, Did, IsLastCall, ComeBehind, IsSaid, IsStamped, FileCause, Keeps}
+use Rattle.command_session.specs.Doing.{Does, Did, IsLastCall, ComeBehind, IsSaid, IsStamped, FileCause, gives_back, KeepsAs}
 use Rattle.command_session.proofs.CloseLemmas.{refused-first}
 use Rattle.command_session.proofs.SeenLemmas.{attached-erased, erased-with, same-with}
 use Rattle.command_session.proofs.DidLemmas.{refused-did}
@@ -296,10 +300,49 @@ attach-cause stamp tells unit (Err (attach.Failed f)) old new of_unit missing =
     refused-first (subject.Unit f.unit) (fault_note stamp f) [] (refl, no-closing unit f of_unit) tt
 attach-cause stamp tells unit (Err attach.OutOfMemory) old new of_unit missing = tt
 
+none-but : (file id : ℕ) (old new : FileState) → (IsNewId old new file → ⊥) → old.given ≤ id → id < new.given → file ≡ id → ⊥
+none-but file id old new none from to same = none (subst (IsNewId old new) (sym same) (from, to))
+
+other-file : (file id : ℕ) (b : Bool) → (id == file) ≡ b → (file ≡ id → ⊥) → one_if b + 0 ≡ 0
+other-file file id true is other = absurd (other (let e = is in grind (arith, nat_tests)))
+other-file file id false is other = refl
+
+-- of a file that was given back nothing is said here; else no call that failed is without a note
+attach-exact : (stamp : Stamp) (tells : Bool) (unit : UnitName) (r : Result ℕ AttachFault) (old new : FileState) → AttachCause tells r unit old new
+    → (file : ℕ) → (IsTrue (gives_back (attach_result r)) → IsNewId old new file → ⊥) → new.faults file ≡ raised_by (noted file (kept_of stamp (fault_of_attach r))) (old.faults file)
+attach-exact stamp tells unit (Ok count) old new cause file none = ap (λ (f : ℕ → ℕ). f file) cause.0
+attach-exact stamp tells unit (Err attach.AlreadyAttached) old new cause file none = ap (λ (f : ℕ → ℕ). f file) cause.counts
+attach-exact stamp tells unit (Err attach.ReadOnly) old new cause file none = ap (λ (f : ℕ → ℕ). f file) cause.counts
+attach-exact stamp tells unit (Err attach.NoFile) old new cause file none = ap (λ (f : ℕ → ℕ). f file) cause.0
+attach-exact stamp tells unit (Err attach.TooLong) old new cause file none =
+    let its = cause.0.1 in
+    its.others file (none-but file cause.0.0.0 old new (none refl) its.rising its.given)
+attach-exact stamp tells unit (Err (attach.Failed f)) old new cause file none = by f.call refl
+  where
+    of-file : (f.call ≡ Opening → ⊥) → new.faults file ≡ raised_by (one_if (is_of file f.file) + 0) (old.faults file)
+    of-file other =
+        let o = cause.other other in
+        let its = o.2 in
+        let apart = none-but file o.0.0 old new (none refl) its.rising its.given in
+        subst (λ (x : Option FileId). new.faults file ≡ raised_by (one_if (is_of file x) + 0) (old.faults file)) (sym o.1)
+        (its.others file apart ∙ ap (λ (n : ℕ). raised_by n (old.faults file)) (sym (other-file file o.0.0 (o.0.0 == file) refl apart)))
+
+    by : (c : FileCall) → f.call ≡ c → new.faults file ≡ raised_by (one_if (is_of file f.file) + 0) (old.faults file)
+    by Opening is =
+        let o = cause.opening is in
+        subst (λ (x : Option FileId). new.faults file ≡ raised_by (one_if (is_of file x) + 0) (old.faults file)) (sym o.0) (ap (λ (g : ℕ → ℕ). g file) o.2)
+    by Closing is = of-file (λ opening. absurd (let both : Closing ≡ Opening = sym is ∙ opening in cc))
+    by Length is = of-file (λ opening. absurd (let both : Length ≡ Opening = sym is ∙ opening in cc))
+    by Read is = of-file (λ opening. absurd (let both : Read ≡ Opening = sym is ∙ opening in cc))
+    by Write is = of-file (λ opening. absurd (let both : Write ≡ Opening = sym is ∙ opening in cc))
+    by SetLength is = of-file (λ opening. absurd (let both : SetLength ≡ Opening = sym is ∙ opening in cc))
+attach-exact stamp tells unit (Err attach.OutOfMemory) old new cause file none = ap (λ (f : ℕ → ℕ). f file) cause
+
 pub attach-keeps : (number time : ℕ) (stamp : Stamp) (tells : Bool) (unit : UnitName) (r : Result ℕ AttachFault) (answer : Answer) (notes notes' : List FaultNote) (old new : FileState)
     → stamp ≡ record { command = number; time = time } → answer ≡ attach_result r → notes' ≡ notes ++ kept_of stamp (fault_of_attach r) → AreCounted (kept_of stamp (fault_of_attach r)) old new
-    → IfSome (fault_of_attach r) (IsAttachFault unit) → MissingCause tells r old new → Keeps number time tells answer notes notes' old new
-attach-keeps number time stamp tells unit r answer notes notes' old new stamped answered added counted of_unit missing =
+    → IfSome (fault_of_attach r) (IsAttachFault unit) → MissingCause tells r old new → AttachCause tells r unit old new → old.given ≤ new.given
+    → KeepsAs true number time tells answer notes notes' old new
+attach-keeps number time stamp tells unit r answer notes notes' old new stamped answered added counted of_unit missing counts ids =
     let own : Stamp = record { command = number; time = time } in
     record {
       kept = kept_of own (fault_of_attach r);
@@ -307,5 +350,9 @@ attach-keeps number time stamp tells unit r answer notes notes' old new stamped 
       few = one-note (fault_of_attach r) own;
       stamped = stamped-note number time (fault_of_attach r);
       counted = subst (λ (s : Stamp). AreCounted (kept_of s (fault_of_attach r)) old new) stamped counted;
+      exact =
+          subst (λ (a : Answer). AreExact (gives_back a) (kept_of own (fault_of_attach r)) old new) (sym answered)
+          (record { files = λ file none. attach-exact own tells unit r old new counts file none; ids = ids });
+      openings = tt;
       cause = subst (λ (a : Answer). FileCause own tells a (kept_of own (fault_of_attach r)) old new) (sym answered) (attach-cause own tells unit r old new of_unit missing);
     }

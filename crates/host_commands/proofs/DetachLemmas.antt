@@ -9,7 +9,9 @@ use Rattle.file_traits.specs.State.{FileState}
 use Rattle.host_lines.specs.Traffic.{Answer as LineAnswer}
 use Rattle.host_lines.specs.State.{LineState}
 use Rattle.unit_trait.specs.Kinds.{same_unit}
-use Rattle.file_commands.specs.Counts.{AreCounted}
+use Rattle.file_commands.specs.Counts.{AreCounted, AreAll, AreExact}
+use Rattle.file_commands.proofs.Exact.{exact-all}
+use Rattle.command_session.proofs.CountedLemmas.{openings-none}
 use Rattle.file_traits.specs.Lists.{NamedBytes}
 use Rattle.unit_trait.specs.declared.kind.UnitName.{UnitName}
 use Rattle.unit_files.specs.declared.faults.UnitFault.{UnitFault}
@@ -36,7 +38,7 @@ use Rattle.command_session.specs.Live.{Live, standing}
 use Rattle.command_session.specs.Reply.{Answer, Reply, refused}
 use Rattle.command_session.specs.FaultText.{detach_fault}
 use Rattle.command_session.specs.FileEffects.{lacks_unit, detach_answer, detach_used, detached_machine, flushed_files, detach_with, detach_reply}
-use Rattle.command_session.specs.Doing.{Does, Did, ComeBehind, FileCause, Keeps}
+use Rattle.command_session.specs.Doing.{Does, Did, ComeBehind, FileCause, is_missing, Keeps}
 use Rattle.command_session.proofs.SeenLemmas.{attached-erased, attached-with, seen-with, same-with}
 use Rattle.command_session.proofs.CloseLemmas.{closing-call, detached-none, refused-first}
 use Rattle.command_session.proofs.DidLemmas.{refused-did}
@@ -233,12 +235,17 @@ detach-cause stamp tells unit attached disk (Err (detach.Failed f)) old new said
     refused-first (subject.Unit f.unit) (fault_note stamp f) []
     (refl, not-closing f.call (failed-write unit disk (failure_in f) (failure_in f) (attachment_at attached unit) handed)) tt
 
+detached-there : (r : Result (Option UnitFault) DetachFault) → is_missing (detach_result r) ≡ false
+detached-there (Ok fault) = refl
+detached-there (Err detach.NotAttached) = refl
+detached-there (Err (detach.Failed f)) = refl
+
 pub detach-keeps : (number time : ℕ) (stamp : Stamp) (tells : Bool) (unit : UnitName) (attached : List (Option Attachment)) (disk : Buffer) (r : Result (Option UnitFault) DetachFault) (answer : Answer)
     (notes notes' : List FaultNote) (old new : FileState) → stamp ≡ record { command = number; time = time } → answer ≡ detach_result r → notes' ≡ notes ++ kept_of stamp (fault_of_detach r)
-    → AreCounted (kept_of stamp (fault_of_detach r)) old new
+    → AreCounted (kept_of stamp (fault_of_detach r)) old new → AreAll (kept_of stamp (fault_of_detach r)) old new
     → said_of_detach r ≡ detach_said (failure_now stamp.time (subject.Unit unit) (own_of stamp.time (fault_of_detach r))) unit attached disk
     → IfSome (fault_of_detach r) (λ (f : UnitFault). f.unit ≡ unit) → Keeps number time tells answer notes notes' old new
-detach-keeps number time stamp tells unit attached disk r answer notes notes' old new stamped answered added counted said of_unit =
+detach-keeps number time stamp tells unit attached disk r answer notes notes' old new stamped answered added counted all said of_unit =
     let own : Stamp = record { command = number; time = time } in
     let cause = detach-cause stamp tells unit attached disk r old new said of_unit in
     record {
@@ -247,6 +254,10 @@ detach-keeps number time stamp tells unit attached disk r answer notes notes' ol
       few = one-note (fault_of_detach r) own;
       stamped = stamped-note number time (fault_of_detach r);
       counted = subst (λ (s : Stamp). AreCounted (kept_of s (fault_of_detach r)) old new) stamped counted;
+      exact = subst (λ (s : Stamp). AreExact false (kept_of s (fault_of_detach r)) old new) stamped (exact-all false (kept_of stamp (fault_of_detach r)) old new all);
+      openings =
+          openings-none tells answer (kept_of own (fault_of_detach r)) old new (ap is_missing answered ∙ detached-there r) all.openings
+          (subst (λ (s : Stamp). AreCounted (kept_of s (fault_of_detach r)) old new) stamped counted);
       cause =
           subst (λ (a : Answer). FileCause own tells a (kept_of own (fault_of_detach r)) old new) (sym answered)
           (subst (λ (s : Stamp). FileCause s tells (detach_result r) (kept_of s (fault_of_detach r)) old new) stamped cause);

@@ -1,11 +1,13 @@
 -- What a command of the host comes to, by what it asks for.
 use Rattle.std.proofs.Common.{◌≡◌, ℕ, Bool, List, ap, sym, ◌∙◌, subst}
+use Rattle.file_traits.specs.State.{FileState}
+use Rattle.file_commands.specs.declared.note.FaultNote.{FaultNote}
 use Rattle.file_commands.specs.Notes.{CommandNote, Note}
 use Rattle.scp_parser.specs.Command.{Request}
 use Rattle.nova_machine.specs.Comes.{Output}
 use Rattle.command_session.specs.Live.{Live, standing}
 use Rattle.command_session.specs.Reply.{Answer, Reply}
-use Rattle.command_session.specs.Doing.{Does, Did}
+use Rattle.command_session.specs.Doing.{Does, Did, attaches_file, KeepsAs}
 use Rattle.command_session.proofs.DidLemmas.{did-of}
 use Rattle.host_commands.specs.HostEffect.{host_effect}
 
@@ -24,3 +26,9 @@ pub noted-did : (number : ℕ) (live new : Live) (request other : Request) (repl
 noted-did number live new request other reply answer tells before after notes notes' is comes did =
     subst (λ (r : List CommandNote → Reply). Did r number answer new tells before after notes notes')
     (λ i own. sym (ap (λ (x : Request). host_effect own live x) is ∙ comes own) i) did
+
+-- the notes of a command, by whether it attaches a file
+pub kept-as : (b : Bool) (r : Request) (number time : ℕ) (tells : Bool) (answer : Answer) (notes notes' : List FaultNote) (old new : FileState) → attaches_file r ≡ b
+    → KeepsAs b number time tells answer notes notes' old new → KeepsAs (attaches_file r) number time tells answer notes notes' old new
+kept-as b r number time tells answer notes notes' old new is keeps =
+    subst (λ (x : Bool). KeepsAs x number time tells answer notes notes' old new) (sym is) keeps

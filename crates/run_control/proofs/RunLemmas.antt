@@ -21,8 +21,9 @@ use Rattle.file_commands.specs.declared.note.FaultNote.{FaultNote}
 use Rattle.file_commands.specs.Notes.{CommandNote, Note, numbered, said_of, notes_said}
 use Rattle.file_commands.specs.Possible.{MayHaveWritten}
 use Rattle.file_commands.proofs.Possible.{run-done}
-use Rattle.file_commands.specs.Counts.{AreCounted}
+use Rattle.file_commands.specs.Counts.{AreCounted, AreExact}
 use Rattle.file_commands.proofs.Causes.{counted-quiet}
+use Rattle.file_commands.proofs.Exact.{exact-quiet}
 use Rattle.file_commands.specs.declared.stamp.Stamp.{Stamp}
 use Rattle.file_commands.specs.Kept.{own_note}
 use Rattle.nova_machine.specs.declared.machine.Stop.{Stop}
@@ -42,9 +43,9 @@ use Rattle.command_session.specs.declared.fault.CommandFault.TheVariants.{Consol
 use Rattle.command_session.specs.Live.{Live, Standing, standing}
 use Rattle.command_session.specs.Reply.{Answer, Reply, bare_answer}
 use Rattle.command_session.specs.RunEffects.{ran, stop_line, stop_text, run_answer, used_by, is_run_call, met_by_run, run_failure}
-use Rattle.command_session.specs.Doing.{Does, Did, IsBrokenOff, IsLastCall, IsLate, ComeBehind, IsStamped, Keeps, FileCause, stop_notes, told_or_console}
+use Rattle.command_session.specs.Doing.{Does, Did, IsBrokenOff, IsLastCall, IsLate, ComeBehind, IsStamped, Keeps, FileCause, is_missing, stop_notes, told_or_console}
 use Rattle.command_session.proofs.ReplyLemmas.{behind-said, behind-refused}
-use Rattle.command_session.proofs.CountedLemmas.{counted-fault}
+use Rattle.command_session.proofs.CountedLemmas.{counted-fault, exact-fault, openings-none}
 
 -- ---- the note of a run
 
@@ -225,6 +226,18 @@ counted-stop : (stamp : Stamp) (stop : Stop) (slots : List (Option Held)) (old n
 counted-stop stamp (FileFault f) slots old new unit cause = counted-fault stamp f slots old new (run-written f.unit f.call f.done unit.1 unit.2) cause
 counted-stop stamp stop slots old new unit cause = counted-quiet old new cause
 
+exact-stop : (stamp : Stamp) (stop : Stop) (slots : List (Option Held)) (old new : FileState) → coming.FileCause (Some stop) slots old new → AreExact false (stop_notes stamp stop) old new
+exact-stop stamp (FileFault f) slots old new cause = exact-fault false stamp f slots old new cause
+exact-stop stamp stop slots old new cause = exact-quiet false old new cause
+
+stop-openings : (stop : Stop) (slots : List (Option Held)) (old new : FileState) → coming.FileCause (Some stop) slots old new → new.open_faults ≡ old.open_faults
+stop-openings (FileFault f) slots old new cause = cause.openings
+stop-openings stop slots old new cause = cause.openings
+
+ran-there : {T E : Type 0} (printed : Result T E) (stop : Stop) (answer : Answer) → answer ≡ told_or_console printed (Ran stop) → is_missing answer ≡ false
+ran-there (Ok x) stop answer is = ap is_missing is
+ran-there (Err e) stop answer is = ap is_missing is
+
 few-stop : (stamp : Stamp) (stop : Stop) → length (stop_notes stamp stop) ≤ 16
 few-stop stamp (FileFault f) = omega arith
 few-stop stamp stop = omega arith
@@ -249,6 +262,10 @@ run-keeps number time tells stop printed answer slots notes notes' old new is ad
       few = few-stop stamp stop;
       stamped = stamped-stop number time stop;
       counted = counted-stop stamp stop slots old new unit cause;
+      exact = exact-stop stamp stop slots old new cause;
+      openings =
+          openings-none tells answer (stop_notes stamp stop) old new (ran-there printed stop answer is) (stop-openings stop slots old new cause)
+          (counted-stop stamp stop slots old new unit cause);
       cause = subst (λ (a : Answer). FileCause stamp tells a (stop_notes stamp stop) old new) (sym is) (told-cause stamp tells printed stop old new);
     }
 
@@ -261,5 +278,9 @@ cut-keeps number time tells stop slots notes old new is cause = record {
   few = omega arith;
   stamped = tt;
   counted = counted-quiet old new (subst (λ (x : Stop). coming.FileCause (Some x) slots old new) is cause);
+  exact = exact-quiet false old new (subst (λ (x : Stop). coming.FileCause (Some x) slots old new) is cause);
+  openings =
+      openings-none tells (Err Console) [] old new refl (stop-openings stop slots old new cause)
+      (counted-quiet old new (subst (λ (x : Stop). coming.FileCause (Some x) slots old new) is cause));
   cause = (ConsoleFault, refl);
 }

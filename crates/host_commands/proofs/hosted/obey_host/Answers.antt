@@ -1,4 +1,4 @@
-use Rattle.std.proofs.Common.{refl, ap, sym, ◌∙◌, subst, ◌≡◌, true, Some, None}
+use Rattle.std.proofs.Common.{refl, ap, sym, ◌∙◌, subst, ◌≡◌, true, Some, None, false}
 use Rattle.file_commands.specs.Notes.{notes_said}
 use Rattle.file_commands.specs.declared.note.Subject.TheVariants as subject
 use Rattle.host_lines.specs.Told.{Heard}
@@ -6,7 +6,7 @@ use Rattle.scp_parser.specs.Command.{request_of, Request, Attach, AttachPort, De
 use Rattle.nova_machine.specs.Comes.{output}
 use Rattle.command_session.specs.Live.{CommandState, live_in, beyond}
 use Rattle.command_session.specs.Nature.{nature}
-use Rattle.command_session.specs.Doing.{says_files, IsTold, IsRefused, Did}
+use Rattle.command_session.specs.Doing.{says_files, attaches_file, IsTold, IsRefused, Did}
 use Rattle.command_session.specs.LinesLeft.{IsUnlistened, ListenCause}
 use Rattle.command_session.specs.Refusals.{IsMeasured, IsUnrefused}
 use Rattle.command_session.specs.LineEffects.{attach_port_reply, disconnect_reply}
@@ -21,7 +21,7 @@ use Rattle.command_session.proofs.RemainLemmas.{undone-as, undone-none}
 use Rattle.host_commands.specs.DoEffects.{do_reply}
 use Rattle.host_commands.specs.HostEffect.{host_effect, HostWorks, HostLines}
 use Rattle.host_commands.proofs.HostAnswers.{do-tables, load-tables}
-use Rattle.host_commands.proofs.HostLemmas.{plain-did, noted-did}
+use Rattle.host_commands.proofs.HostLemmas.{plain-did, noted-did, kept-as}
 use Rattle.host_commands.proofs.NamedLemmas.{do-named, load-named, dump-named}
 use Rattle.host_commands.proofs.hosted.obey_host.Goals as goal
 
@@ -156,8 +156,11 @@ returns-in-AttachPort-clause-told g c = λ told whole first tells printed.
 
 pub returns-in-AttachPort-clause-keeps : goal.returns-in-AttachPort-clause-keeps
 returns-in-AttachPort-clause-keeps g c =
-    keeps-none c.args.session.now.command c.attach_port.new.session.machine.time g.F.Files.tells c.attach_port.result c.args.session.now.notes c.attach_port.new.session.notes (g.F.Files.state c.args.files.now)
-    (ap (λ (x : CommandState). x.notes) c.attach_port.ensures.rest) (port-no-file c.attach_port.result c.attach_port.ensures.own)
+    let asks = sym c.command.view_is ∙ ap (request_of _) c.in-AttachPort.is in
+    kept-as false c.args.command.now c.args.session.now.command c.attach_port.new.session.machine.time g.F.Files.tells c.attach_port.result c.args.session.now.notes c.attach_port.new.session.notes
+    (g.F.Files.state c.args.files.now) (g.F.Files.state c.args.files.now) (ap attaches_file asks)
+    (keeps-none c.args.session.now.command c.attach_port.new.session.machine.time g.F.Files.tells c.attach_port.result c.args.session.now.notes c.attach_port.new.session.notes (g.F.Files.state c.args.files.now)
+    (ap (λ (x : CommandState). x.notes) c.attach_port.ensures.rest) (port-no-file c.attach_port.result c.attach_port.ensures.own))
 
 pub returns-in-AttachPort-clause-lines : goal.returns-in-AttachPort-clause-lines
 returns-in-AttachPort-clause-lines g c = c.attach_port.ensures.left
@@ -204,8 +207,11 @@ returns-in-Disconnect-clause-told g c = λ told whole first tells printed.
 
 pub returns-in-Disconnect-clause-keeps : goal.returns-in-Disconnect-clause-keeps
 returns-in-Disconnect-clause-keeps g c =
-    keeps-none c.args.session.now.command c.disconnect.new.session.machine.time g.F.Files.tells c.disconnect.result c.args.session.now.notes c.disconnect.new.session.notes (g.F.Files.state c.args.files.now)
-    (ap (λ (x : CommandState). x.notes) c.disconnect.ensures.rest) (port-no-file c.disconnect.result c.disconnect.ensures.port)
+    let asks = sym c.command.view_is ∙ ap (request_of _) c.in-Disconnect.is in
+    kept-as false c.args.command.now c.args.session.now.command c.disconnect.new.session.machine.time g.F.Files.tells c.disconnect.result c.args.session.now.notes c.disconnect.new.session.notes
+    (g.F.Files.state c.args.files.now) (g.F.Files.state c.args.files.now) (ap attaches_file asks)
+    (keeps-none c.args.session.now.command c.disconnect.new.session.machine.time g.F.Files.tells c.disconnect.result c.args.session.now.notes c.disconnect.new.session.notes (g.F.Files.state c.args.files.now)
+    (ap (λ (x : CommandState). x.notes) c.disconnect.ensures.rest) (port-no-file c.disconnect.result c.disconnect.ensures.port))
 
 pub returns-in-Disconnect-clause-lines : goal.returns-in-Disconnect-clause-lines
 returns-in-Disconnect-clause-lines g c = c.disconnect.ensures.left
@@ -427,3 +433,39 @@ pub returns-in-Dump-clause-works : goal.returns-in-Dump-clause-works
 returns-in-Dump-clause-works g c =
     let is = sym c.command.view_is ∙ ap (request_of _) c.in-Dump.is in
     subst (λ (r : Request). HostWorks r c.dump_file.result c.args.session.now c.dump_file.new.session (g.F.Files.state c.args.files.now) (g.F.Files.state c.dump_file.new.files)) (sym is) (c.dump_file.ensures.machine, c.dump_file.ensures.watch)
+
+pub returns-in-Attach-clause-keeps : goal.returns-in-Attach-clause-keeps
+returns-in-Attach-clause-keeps g c =
+    let asks = sym c.command.view_is ∙ ap (request_of _) c.in-Attach.is in
+    kept-as true c.args.command.now c.args.session.now.command c.attach.new.session.machine.time g.F.Files.tells c.attach.result c.args.session.now.notes c.attach.new.session.notes
+    (g.F.Files.state c.args.files.now) (g.F.Files.state c.attach.new.files) (ap attaches_file asks) c.attach.ensures.keeps
+
+pub returns-in-Do-clause-keeps : goal.returns-in-Do-clause-keeps
+returns-in-Do-clause-keeps g c =
+    let asks = sym c.command.view_is ∙ ap (request_of _) c.in-Do.is in
+    kept-as false c.args.command.now c.args.session.now.command c.do_script.new.session.machine.time g.F.Files.tells c.do_script.result c.args.session.now.notes c.do_script.new.session.notes
+    (g.F.Files.state c.args.files.now) (g.F.Files.state c.do_script.new.files) (ap attaches_file asks) c.do_script.ensures.keeps
+
+pub returns-in-Load-clause-keeps : goal.returns-in-Load-clause-keeps
+returns-in-Load-clause-keeps g c =
+    let asks = sym c.command.view_is ∙ ap (request_of _) c.in-Load.is in
+    kept-as false c.args.command.now c.args.session.now.command c.load_file.new.session.machine.time g.F.Files.tells c.load_file.result c.args.session.now.notes c.load_file.new.session.notes
+    (g.F.Files.state c.args.files.now) (g.F.Files.state c.load_file.new.files) (ap attaches_file asks) c.load_file.ensures.keeps
+
+pub returns-in-Dump-clause-keeps : goal.returns-in-Dump-clause-keeps
+returns-in-Dump-clause-keeps g c =
+    let asks = sym c.command.view_is ∙ ap (request_of _) c.in-Dump.is in
+    kept-as false c.args.command.now c.args.session.now.command c.dump_file.new.session.machine.time g.F.Files.tells c.dump_file.result c.args.session.now.notes c.dump_file.new.session.notes
+    (g.F.Files.state c.args.files.now) (g.F.Files.state c.dump_file.new.files) (ap attaches_file asks) c.dump_file.ensures.keeps
+
+pub returns-in-Detach-clause-keeps : goal.returns-in-Detach-clause-keeps
+returns-in-Detach-clause-keeps g c =
+    let asks = sym c.command.view_is ∙ ap (request_of _) c.in-Detach.is in
+    kept-as false c.args.command.now c.args.session.now.command c.detach_one_or_every.new.session.machine.time g.F.Files.tells c.detach_one_or_every.result c.args.session.now.notes c.detach_one_or_every.new.session.notes
+    (g.F.Files.state c.args.files.now) (g.F.Files.state c.detach_one_or_every.new.files) (ap attaches_file asks) c.detach_one_or_every.ensures.keeps
+
+pub returns-in-Exit-clause-keeps : goal.returns-in-Exit-clause-keeps
+returns-in-Exit-clause-keeps g c =
+    let asks = sym c.command.view_is ∙ ap (request_of _) c.in-Exit.is in
+    kept-as false c.args.command.now c.args.session.now.command c.exit.new.session.machine.time g.F.Files.tells c.exit.result c.args.session.now.notes c.exit.new.session.notes
+    (g.F.Files.state c.args.files.now) (g.F.Files.state c.exit.new.files) (ap attaches_file asks) c.exit.ensures.keeps

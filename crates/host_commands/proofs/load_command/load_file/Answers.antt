@@ -45,7 +45,7 @@ returns-clause-keeps g c =
     (subst (λ (t : ℕ). Keeps s.command t g.F.Files.tells c.load_bytes.result s.notes.items c.note_reading.new.notes.items before after) (sym time)
     (read-keeps subject.Load s.command s.machine.time g.F.Files.tells (tape_comes s.machine) whole c.load_bytes.result s.notes.items
     c.note_reading.new.notes.items before after (λ bytes. tape-closings stamp g.F.Files.tells s.machine bytes before after)
-    c.load_bytes.ensures.answer read.shape (record { counts = read.counts; openings = read.openings })
+    c.load_bytes.ensures.answer read.shape (record { counts = read.counts; openings = read.openings; ids = read.ids })
     (c.note_reading.ensures.notes ∙ ap (λ (t : Stamp). s.notes.items ++ read_notes subject.Load t whole) stamped)))
 
 pub returns-clause-undone : goal.returns-clause-undone

@@ -1,11 +1,11 @@
-use Rattle.std.proofs.Common.{Ok, Err, ◌≡◌, ℕ, refl, ap, sym, ◌∙◌, subst, ◌≤◌, ◌^◌}
+use Rattle.std.proofs.Common.{Ok, Err, ◌≡◌, ℕ, refl, ap, sym, ◌∙◌, subst, ◌≤◌, ◌^◌, true}
 use Rattle.unit_files.specs.Attachments.{attachments_of}
 use Rattle.file_commands.specs.Notes.{notes_said}
 use Rattle.unit_files.specs.Buffer.{AttachedFiles}
 use Rattle.nova_machine.specs.Machine.{MachineState, with_attached_files}
 use Rattle.nova_machine.specs.Seen.{seen, beside}
 use Rattle.command_session.specs.declared.next.Next.TheVariants.{Go}
-use Rattle.command_session.specs.Doing.{Keeps}
+use Rattle.command_session.specs.Doing.{KeepsAs}
 use Rattle.command_session.proofs.SeenLemmas.{attached-erased}
 use Rattle.command_session.proofs.BehindLemmas.{stamp_in}
 use Rattle.host_commands.proofs.AttachLemmas.{begins-within, attach-lacking, attach-done, becomes-attached, becomes-refused, attach-keeps}
@@ -78,9 +78,9 @@ returns-in-Ok-clause-keeps g c =
     let done = c.in-Ok.ensures in
     let time_is : c.set_position.new.machine.time ≡ s.machine.time = ap (λ (m : MachineState). m.time) c.set_position.ensures in
     rw (← c.session.view_is)
-    (subst (λ (time : ℕ). Keeps s.command time g.F.Files.tells (Ok Go) s.notes.items notes before after) (sym time_is)
+    (subst (λ (time : ℕ). KeepsAs true s.command time g.F.Files.tells (Ok Go) s.notes.items notes before after) (sym time_is)
     (attach-keeps s.command s.machine.time c.stamp_of-stamp.result g.F.Files.tells c.args.unit (Ok c.in-Ok.count) (Ok Go) s.notes.items notes before after
-    (c.stamp_of-stamp.ensures ∙ ap stamp_in (sym c.session.view_is)) refl done.notes done.counted done.own done.missing))
+    (c.stamp_of-stamp.ensures ∙ ap stamp_in (sym c.session.view_is)) refl done.notes done.counted done.own done.missing done.cause done.whose.ids))
 
 pub returns-in-Err-clause-keeps : goal.returns-in-Err-clause-keeps
 returns-in-Err-clause-keeps g c =
@@ -89,7 +89,7 @@ returns-in-Err-clause-keeps g c =
     rw (← c.session.view_is)
     (attach-keeps s.command s.machine.time c.stamp_of-stamp.result g.F.Files.tells c.args.unit (Err c.in-Err.fault) (Err c.of_attach.result) s.notes.items c.attach_unit.new.notes.items
     (g.F.Files.state c.args.files.now) (g.F.Files.state c.attach_unit.new.files)
-    (c.stamp_of-stamp.ensures ∙ ap stamp_in (sym c.session.view_is)) (ap Err c.of_attach.ensures) done.notes done.counted done.own done.missing)
+    (c.stamp_of-stamp.ensures ∙ ap stamp_in (sym c.session.view_is)) (ap Err c.of_attach.ensures) done.notes done.counted done.own done.missing done.cause done.whose.ids)
 
 pub returns-in-Ok-clause-kinds : goal.returns-in-Ok-clause-kinds
 returns-in-Ok-clause-kinds g c =

@@ -47,4 +47,4 @@ returns-clause-keeps g c =
     rw (← c.session.view_is)
     (detach-keeps s.command s.machine.time c.stamp_of-stamp.result g.F.Files.tells c.args.unit (attachments_of c.attached_mut.result.now.slots) c.attached_mut.result.now.disk c.detach_unit.result c.match-detach_unit.result
     s.notes.items c.detach_unit.new.notes.items (g.F.Files.state c.args.files.now) (g.F.Files.state c.detach_unit.new.files)
-    (c.stamp_of-stamp.ensures ∙ ap stamp_in (sym c.session.view_is)) answered c.detach_unit.ensures.notes c.detach_unit.ensures.counted c.detach_unit.ensures.said c.detach_unit.ensures.own)
+    (c.stamp_of-stamp.ensures ∙ ap stamp_in (sym c.session.view_is)) answered c.detach_unit.ensures.notes c.detach_unit.ensures.counted c.detach_unit.ensures.all c.detach_unit.ensures.said c.detach_unit.ensures.own)

@@ -108,7 +108,7 @@ returns-in-Err-clause-keeps g c =
     rw (← c.session.view_is)
     (restore-keeps s.command s.machine.time s.machine.time g.F.Files.tells (Err c.of_whole.result) s.notes.items c.note_state_reading.new.notes.items before mid
     (read-keeps subject.State s.command s.machine.time g.F.Files.tells (λ bytes. Ok Go) w (Err c.of_whole.result) s.notes.items c.note_state_reading.new.notes.items before mid
-    (λ bytes kept shut. shut) (ap Err c.of_whole.ensures ∙ sym (whole-fault w.bytes c.in-Err.fault (ap bytes_for c.in-Err.ensures.reader))) read.shape (record { counts = read.counts; openings = read.openings })
+    (λ bytes kept shut. shut) (ap Err c.of_whole.ensures ∙ sym (whole-fault w.bytes c.in-Err.fault (ap bytes_for c.in-Err.ensures.reader))) read.shape (record { counts = read.counts; openings = read.openings; ids = read.ids })
     (c.note_state_reading.ensures.notes ∙ ap (λ (t : Stamp). s.notes.items ++ read_notes subject.State t w) stamped)))
 
 pub returns-in-Err-saved_in-clause-told : goal.returns-in-Err-saved_in-clause-told
@@ -206,7 +206,7 @@ returns-in-Ok-set_state-clause-keeps g c =
     let stamped = c.stamp_of-stamp.ensures ∙ ap stamp_in (sym c.session.view_is) in
     rw (← c.session.view_is)
     (done-restore-keeps s.command s.machine.time c.set_state.new.machine.time g.F.Files.tells w c.in-Ok.reader.saved.words (ap bytes_for c.in-Ok.ensures.reader) read.shape (g.F.Files.state c.args.files.now)
-    (g.F.Files.state c.read_state_file-read.new.files) (g.F.Files.state c.set_state.new.files) (record { counts = read.counts; openings = read.openings }) c.in-Ok-set_state.ensures.counts
+    (g.F.Files.state c.read_state_file-read.new.files) (g.F.Files.state c.set_state.new.files) (record { counts = read.counts; openings = read.openings; ids = read.ids }) c.in-Ok-set_state.ensures.counts
     s.notes.items c.note_state_reading.new.notes.items
     (c.note_state_reading.ensures.notes ∙ ap (λ (t : Stamp). s.notes.items ++ read_notes subject.State t w) stamped))
 
@@ -325,7 +325,7 @@ returns-clause-keeps g c =
     let stamped = c.stamp_of-stamp.ensures ∙ ap stamp_in (sym c.session.view_is) in
     rw (← c.session.view_is)
     (refused-restore-keeps s.command s.machine.time c.set_state.new.machine.time g.F.Files.tells w c.in-Ok.reader.saved.words (ap bytes_for c.in-Ok.ensures.reader) read.shape (g.F.Files.state c.args.files.now)
-    (g.F.Files.state c.read_state_file-read.new.files) (g.F.Files.state c.set_state.new.files) (record { counts = read.counts; openings = read.openings }) set.counts
+    (g.F.Files.state c.read_state_file-read.new.files) (g.F.Files.state c.set_state.new.files) (record { counts = read.counts; openings = read.openings; ids = read.ids }) set.counts
     c.in-Err-set_state.fault (Err c.fault_of_restore.result) s.notes.items c.note_restoring.new.notes.items set.cause (ap Err c.fault_of_restore.ensures)
     (c.note_restoring.ensures.notes
     ∙ (λ i. (c.note_state_reading.ensures.notes ∙ ap (λ (t : Stamp). s.notes.items ++ read_notes subject.State t w) stamped) i ++ restore_notes (stamped i) c.in-Err-set_state.fault)))
@@ -371,7 +371,7 @@ returns-in-Err-saved_in-clause-keeps g c =
     (read-keeps subject.State s.command s.machine.time g.F.Files.tells (λ bytes. Err (state_fault fault)) w (Err c.fault_of_state.result) s.notes.items c.note_state_reading.new.notes.items before mid
     (λ bytes. takes-unfit fault (record { command = s.command; time = s.machine.time }) g.F.Files.tells before mid)
     (ap Err c.fault_of_state.ensures ∙ sym (ap (whole_answer subject.State (λ bytes. Err (state_fault fault))) (ap bytes_for c.in-Ok.ensures.reader))) read.shape
-    (record { counts = read.counts; openings = read.openings })
+    (record { counts = read.counts; openings = read.openings; ids = read.ids })
     (c.note_state_reading.ensures.notes ∙ ap (λ (t : Stamp). s.notes.items ++ read_notes subject.State t w) stamped)))
 
 pub returns-clause-answers : goal.returns-clause-answers

@@ -80,7 +80,7 @@ returns-in-Ok-clause-keeps g c =
     (subst (λ (t : ℕ). Keeps s.command t g.F.Files.tells c.written_answer.result s.notes.items c.note_writing.new.notes.items before after) (sym time)
     (quiet-keeps s.command s.machine.time g.F.Files.tells c.written_answer.result s.notes.items c.note_writing.new.notes.items before mid after taken.cause
     (write-keeps subject.State s.command s.machine.time g.F.Files.tells (text_of (state_in c.in-Ok.saved)) w c.written_answer.result s.notes.items
-    c.note_writing.new.notes.items mid after c.written_answer.ensures write.shape tt (record { counts = write.counts; openings = write.openings })
+    c.note_writing.new.notes.items mid after c.written_answer.ensures write.shape tt (record { counts = write.counts; openings = write.openings; ids = write.ids })
     (c.note_writing.ensures.notes ∙ ap (λ (t : Stamp). s.notes.items ++ write_notes subject.State t w) stamped))))
 
 pub returns-in-Err-clause-told : goal.returns-in-Err-clause-told
