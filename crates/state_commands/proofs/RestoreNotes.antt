@@ -1,5 +1,5 @@
 -- The notes that RESTORE keeps: of the reading of its file, and of a call on a unit's file.
-use Rattle.std.proofs.Common.{◌≡◌, ◌⊎◌, inl, inr, ℕ, ◌+◌, ◌≤◌, ◌==◌, Bool, true, false, List, [], ◌∷◌, ◌++◌, length, Option, Some, None, is_some, not, ◌&&◌, Result, Ok, Err, refl, ap, sym, ◌∙◌, subst, append-nil, append_assoc, arith}
+use Rattle.std.proofs.Common.{◌≡◌, ◌⊎◌, inl, inr, ℕ, ◌+◌, ◌<◌, ◌≤◌, ◌==◌, nat_lt, Bool, true, false, List, [], ◌∷◌, ◌++◌, length, Option, Some, None, is_some, not, ◌&&◌, Result, Ok, Err, refl, ap, sym, ◌∙◌, subst, append-nil, append_assoc, arith}
 use Rattle.std.specs.List.{AllByRecursion}
 use Rattle.std.specs.Global.{Vec}
 use Rattle.std.proofs.lemmas.Bool.{eqb-true}
@@ -11,21 +11,24 @@ use Rattle.file_traits.specs.declared.files.FileId.{FileId}
 use Rattle.file_traits.specs.State.{FileState}
 use Rattle.unit_files.specs.declared.faults.UnitFault.{UnitFault}
 use Rattle.unit_files.specs.Attachments.{Held}
-use Rattle.unit_files.specs.Causes.{OnlyNewCounts, AreFrom}
+use Rattle.unit_files.specs.Causes.{OnlyNewCounts, AreFrom, IsNewId}
+use Rattle.file_traits.specs.FileCalls.{UnusedIdsAreUncounted}
 use Rattle.file_commands.specs.declared.note.Subject.TheVariants as subject
 use Rattle.file_commands.specs.declared.note.FaultNote.{FaultNote}
 use Rattle.file_commands.specs.declared.stamp.Stamp.{Stamp}
-use Rattle.file_commands.specs.Counts.{is_of, is_opening, one_if, noted, RoseBy, AreCounted}
+use Rattle.file_commands.specs.Counts.{is_of, is_opening, one_if, noted, RoseBy, AreCounted, AreExact}
 use Rattle.file_commands.specs.Kept.{fault_note}
 use Rattle.file_commands.specs.OwnFiles.{OwnFile, IsOwnNote, AreOwn}
 use Rattle.file_commands.proofs.Adding.{counted-both}
+use Rattle.file_commands.proofs.Exact.{exact-both, exact-kept, exact-when}
+use Rattle.std.proofs.lemmas.Bool.Decides.{nat_tests}
 use Rattle.file_commands.proofs.Causes.{rose-one, counted-only}
 use Rattle.file_commands.proofs.Possible.{none-done}
 use Rattle.whole_files.specs.declared.whole.FailedCall.{FailedCall}
 use Rattle.whole_files.specs.declared.whole.Whole.{Whole}
 use Rattle.whole_files.specs.declared.whole.WholeFault.{WholeFault}
 use Rattle.whole_files.specs.declared.whole.WholeFault.TheVariants as fault
-use Rattle.whole_files.specs.Claims.{HasShape, is_failed, is_missing}
+use Rattle.whole_files.specs.Claims.{HasShape, is_failed, is_missing, raised_by}
 use Rattle.saved_files.specs.declared.file_faults.RestoreFault.{RestoreFault}
 use Rattle.saved_files.specs.declared.file_faults.RestoreFault.TheVariants as restore
 use Rattle.saved_files.specs.RestoreCauses.{IsRestoreFault, SessionCause}
@@ -36,8 +39,8 @@ use Rattle.state_commands.specs.StateFaults.{restore_fault}
 use Rattle.command_session.specs.Reply.{Answer}
 use Rattle.state_commands.specs.StateEffects.{restore_notes}
 use Rattle.command_session.specs.WholeCalls.{call_notes, both_notes, read_notes, whole_answer}
-use Rattle.command_session.specs.Doing.{AllClosings, IsShutNote, IsStamped, FileCause, RestoreFileCause, Keeps, KeepsBy}
-use Rattle.command_session.proofs.WholeLemmas.{IsShut, Rises, read-claims, both-counted, possible-read, few-both, stamped-both}
+use Rattle.command_session.specs.Doing.{AllClosings, IsShutNote, IsStamped, FileCause, RestoreFileCause, gives_back, Keeps, KeepsBy}
+use Rattle.command_session.proofs.WholeLemmas.{IsShut, Rises, read-claims, both-counted, both-exact, possible-read, few-both, stamped-both}
 
 -- ---- the file was not read, or its bytes are no state
 
@@ -48,13 +51,15 @@ as-restore stamp tells (Err PortFailed) kept old new cause = subst AllClosings (
 as-restore stamp tells answer kept old new cause = cause
 
 pub restore-keeps : (number before now : ℕ) (tells : Bool) (answer : Answer) (notes notes' : List FaultNote) (old new : FileState) → Keeps number before tells answer notes notes' old new
-    → KeepsBy true number before now tells answer notes notes' old new
+    → KeepsBy true true number before now tells answer notes notes' old new
 restore-keeps number before now tells answer notes notes' old new keeps = record {
   kept = keeps.kept;
   added = keeps.added;
   few = keeps.few;
   stamped = keeps.stamped;
   counted = keeps.counted;
+  exact = exact-kept (gives_back answer) keeps.kept old new keeps.exact;
+  openings = tt;
   cause = as-restore (record { command = number; time = before }) tells answer keeps.kept old new keeps.cause;
 }
 
@@ -149,6 +154,71 @@ restore-counted stamp tells (restore.Changed unit) old new only cause = counted-
 restore-counted stamp tells restore.Port old new only cause = counted-only old new only
 restore-counted stamp tells restore.OutOfMemory old new only cause = counted-only old new only
 
+-- but for those of files that were opened in between no count has changed
+unchanged-before : (file : ℕ) (old new : FileState) → OnlyNewCounts old new → UnusedIdsAreUncounted old → UnusedIdsAreUncounted new → (IsNewId old new file → ⊥)
+    → new.faults file ≡ old.faults file
+unchanged-before file old new only unused unused' none = by (nat_lt file old.given) (nat_lt file new.given) refl refl
+  where
+    by : (b c : Bool) → nat_lt file old.given ≡ b → nat_lt file new.given ≡ c → new.faults file ≡ old.faults file
+    by true c first last = only.before file (grind (arith, nat_tests))
+    by false true first last =
+        let from : old.given ≤ file = grind (arith, nat_tests) in
+        let below : file < new.given = grind (arith, nat_tests) in
+        absurd (none (from, below))
+    by false false first last =
+        let from : old.given ≤ file = grind (arith, nat_tests) in
+        let behind : new.given ≤ file = grind (arith, nat_tests) in
+        unused' file behind ∙ sym (unused file from)
+
+-- nor is a failed call on another without a note
+restore-before : (stamp : Stamp) (f : UnitFault) (old new : FileState) → OnlyNewCounts old new → UnusedIdsAreUncounted old → UnusedIdsAreUncounted new → IsRestoreFault f old new
+    → (file : ℕ) → (IsNewId old new file → ⊥)
+    → new.faults file ≡ raised_by (noted file (fault_note stamp f ∷ [])) (old.faults file)
+restore-before stamp f old new only unused unused' is file none = by f.call refl
+  where
+    of-file : (f.call ≡ call.Opening → ⊥) → new.faults file ≡ raised_by (one_if (is_of file f.file) + 0) (old.faults file)
+    of-file other =
+        let its = is.other other in
+        subst (λ (o : Option FileId). new.faults file ≡ raised_by (one_if (is_of file o) + 0) (old.faults file)) (sym its.file_is)
+        (at (its.id.0 == file) refl its.id its.fresh)
+      where
+        at : (b : Bool) → b ≡ b → (id : FileId) → IsNewId old new id.0 → new.faults file ≡ raised_by (one_if (id.0 == file) + 0) (old.faults file)
+        at b same id fresh = here (id.0 == file) refl
+          where
+            here : (c : Bool) → (id.0 == file) ≡ c → new.faults file ≡ raised_by (one_if c + 0) (old.faults file)
+            here true is = absurd (none (subst (λ (n : ℕ). IsNewId old new n) (eqb-true id.0 file is) fresh))
+            here false is = unchanged-before file old new only unused unused' none
+
+    by : (c : FileCall) → f.call ≡ c → new.faults file ≡ raised_by (one_if (is_of file f.file) + 0) (old.faults file)
+    by call.Opening same =
+        subst (λ (o : Option FileId). new.faults file ≡ raised_by (one_if (is_of file o) + 0) (old.faults file)) (sym (is.opening same).0) (unchanged-before file old new only unused unused' none)
+    by call.Length same = of-file (λ opening. absurd (let both : call.Length ≡ call.Opening = sym same ∙ opening in cc))
+    by call.Read same = of-file (λ opening. absurd (let both : call.Read ≡ call.Opening = sym same ∙ opening in cc))
+    by call.Write same = of-file (λ opening. absurd (let both : call.Write ≡ call.Opening = sym same ∙ opening in cc))
+    by call.SetLength same = of-file (λ opening. absurd (let both : call.SetLength ≡ call.Opening = sym same ∙ opening in cc))
+    by call.Closing same = of-file (λ opening. absurd (let both : call.Closing ≡ call.Opening = sym same ∙ opening in cc))
+
+restore-exact : (stamp : Stamp) (tells : Bool) (fault : RestoreFault) (old new : FileState) → OnlyNewCounts old new → UnusedIdsAreUncounted old → UnusedIdsAreUncounted new
+    → SessionCause tells (Err fault) old new → AreExact true (restore_notes stamp fault) old new
+restore-exact stamp tells fault old new only unused unused' cause = record { files = λ file none. by fault cause file (none refl); ids = only.ids }
+  where
+    by : (fault : RestoreFault) → SessionCause tells (Err fault) old new → (file : ℕ) → (IsNewId old new file → ⊥) → new.faults file ≡ raised_by (noted file (restore_notes stamp fault)) (old.faults file)
+    by (restore.Failed f) cause file none = restore-before stamp f old new only unused unused' cause file none
+    by (restore.NoFile unit) cause file none = unchanged-before file old new only unused unused' none
+    by (restore.TooLong unit) cause file none = unchanged-before file old new only unused unused' none
+    by (restore.Changed unit) cause file none = unchanged-before file old new only unused unused' none
+    by restore.Port cause file none = unchanged-before file old new only unused unused' none
+    by restore.OutOfMemory cause file none = unchanged-before file old new only unused unused' none
+
+-- each such refusal may have given files back
+restore-gives : (P : Bool → Type 0) (fault : RestoreFault) → P true → P (gives_back (Err (restore_fault fault)))
+restore-gives P (restore.Failed f) all = all
+restore-gives P (restore.NoFile unit) all = all
+restore-gives P (restore.TooLong unit) all = all
+restore-gives P (restore.Changed unit) all = all
+restore-gives P restore.Port all = all
+restore-gives P restore.OutOfMemory all = all
+
 few-more : (stamp : Stamp) (fault : RestoreFault) → length (restore_notes stamp fault) ≤ 1
 few-more stamp (restore.Failed f) = omega arith
 few-more stamp (restore.NoFile unit) = omega arith
@@ -184,22 +254,31 @@ more-cause stamp tells restore.Port shut old mid new closings later cause = subs
 more-cause stamp tells restore.OutOfMemory shut old mid new closings later cause = subst AllClosings (sym (append-nil shut)) closings
 
 module _ (number time now : ℕ) (tells : Bool) (w : Whole) (v : Vec ℕ) (is : w.bytes ≡ Ok v) (shape : HasShape w) (old mid new : FileState)
-    (rises : Rises (is_missing w.bytes && not tells) w.failed w.closing old mid) (only : OnlyNewCounts mid new) where
+    (rises : Rises (is_missing w.bytes && not tells) w.failed w.closing old mid) (only : OnlyNewCounts mid new) (unused : UnusedIdsAreUncounted mid) (unused' : UnusedIdsAreUncounted new) where
   abbrev pub stamp_here : Stamp
   stamp_here = record { command = number; time = time }
 
   first-counted : AreCounted (read_notes subject.State stamp_here w) old mid
   first-counted = both-counted subject.State stamp_here 0 _ w.failed w.closing old mid (read-claims w shape) (possible-read subject.State w.failed) rises
 
+  first-exact : AreExact false (read_notes subject.State stamp_here w) old mid
+  first-exact = both-exact subject.State stamp_here 0 _ w.failed w.closing old mid rises
+
   -- the session was not put back
   pub refused-restore-keeps : (fault : RestoreFault) (answer : Answer) (notes notes' : List FaultNote) → SessionCause tells (Err fault) mid new → answer ≡ Err (restore_fault fault)
-      → notes' ≡ (notes ++ read_notes subject.State stamp_here w) ++ restore_notes stamp_here fault → KeepsBy true number time now tells answer notes notes' old new
+      → notes' ≡ (notes ++ read_notes subject.State stamp_here w) ++ restore_notes stamp_here fault → KeepsBy true true number time now tells answer notes notes' old new
   refused-restore-keeps fault answer notes notes' cause answered noted = record {
     kept = read_notes subject.State stamp_here w ++ restore_notes stamp_here fault;
     added = noted ∙ append_assoc notes (read_notes subject.State stamp_here w) (restore_notes stamp_here fault);
     few = let few = few-two in few;
     stamped = every-both (IsStamped number time) _ _ (stamped-both subject.State number time 0 w.failed w.closing) (stamped-more number time fault);
     counted = counted-both _ _ old mid new first-counted (restore-counted stamp_here tells fault mid new only cause);
+    exact =
+        subst (λ (a : Answer). AreExact (gives_back a) (read_notes subject.State stamp_here w ++ restore_notes stamp_here fault) old new) (sym answered)
+        (restore-gives (λ (b : Bool). AreExact b (read_notes subject.State stamp_here w ++ restore_notes stamp_here fault) old new) fault
+        (exact-both true (read_notes subject.State stamp_here w) (restore_notes stamp_here fault) old mid new (exact-kept true (read_notes subject.State stamp_here w) old mid first-exact)
+        (restore-exact stamp_here tells fault mid new only unused unused' cause)));
+    openings = tt;
     cause =
         subst (λ (a : Answer). RestoreFileCause stamp_here tells a (read_notes subject.State stamp_here w ++ restore_notes stamp_here fault) old new) (sym answered)
         (more-cause stamp_here tells fault (read_notes subject.State stamp_here w) old mid new (read-closings stamp_here w v is shape) first-counted.openings.0 cause);
@@ -219,8 +298,8 @@ module _ (number time now : ℕ) (tells : Bool) (w : Whole) (v : Vec ℕ) (is : 
           omega (arith, both, one, two)
 
   -- it was
-  pub done-restore-keeps : (notes notes' : List FaultNote) → notes' ≡ notes ++ read_notes subject.State stamp_here w → KeepsBy true number time now tells (Ok Go) notes notes' old new
-  done-restore-keeps notes notes' noted = record {
+  pub done-restore-keeps : (notes notes' : List FaultNote) → new.faults ≡ mid.faults → notes' ≡ notes ++ read_notes subject.State stamp_here w → KeepsBy true true number time now tells (Ok Go) notes notes' old new
+  done-restore-keeps notes notes' same noted = record {
     kept = read_notes subject.State stamp_here w;
     added = noted;
     few = few-both subject.State stamp_here 0 w.failed w.closing;
@@ -228,6 +307,10 @@ module _ (number time now : ℕ) (tells : Bool) (w : Whole) (v : Vec ℕ) (is : 
     counted =
         subst (λ (l : List FaultNote). AreCounted l old new) (append-nil (read_notes subject.State stamp_here w))
         (counted-both (read_notes subject.State stamp_here w) [] old mid new first-counted (counted-only mid new only));
+    exact =
+        subst (λ (l : List FaultNote). AreExact false l old new) (append-nil (read_notes subject.State stamp_here w))
+        (exact-both false (read_notes subject.State stamp_here w) [] old mid new first-exact (exact-when false [] mid new (λ file. ap (λ (f : ℕ → ℕ). f file) same) only.ids));
+    openings = tt;
     cause = read-closings stamp_here w v is shape;
   }
 

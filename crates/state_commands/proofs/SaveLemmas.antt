@@ -1,5 +1,5 @@
 -- SAVE, as its calls say it.
-use Rattle.std.proofs.Common.{◌≡◌, ◌⊎◌, inl, inr, ℕ, ◌==◌, append-nil, arith, Bool, true, false, List, [], ◌∷◌, ◌++◌, length, Option, Some, None, IfSome, Ok, Err, refl, ap, sym, ◌∙◌, subst, if◌then◌else◌}
+use Rattle.std.proofs.Common.{◌≡◌, ◌⊎◌, inl, inr, ℕ, ◌+◌, ◌==◌, ◌&&◌, not, append-nil, arith, Bool, true, false, List, [], ◌∷◌, ◌++◌, length, Option, Some, None, IfSome, Ok, Err, refl, ap, sym, ◌∙◌, subst, if◌then◌else◌}
 use Rattle.std.proofs.lemmas.Bool.{eq-eqb}
 use Rattle.file_traits.specs.declared.files.FileCall.{FileCall}
 use Rattle.file_traits.specs.declared.files.FileCall.TheVariants.{Length, Read, Write, Closing}
@@ -41,10 +41,12 @@ use Rattle.unit_files.specs.Attachments.{Held}
 use Rattle.unit_files.specs.Buffer.{disk_bytes}
 use Rattle.unit_files.specs.Causes.{IsQuiet}
 use Rattle.unit_files.specs.Digests.{IsWritingCall, IsReadingCall}
-use Rattle.file_commands.specs.Counts.{noted, openings_noted, RoseBy}
+use Rattle.file_commands.specs.Counts.{noted, one_if, openings_noted, RoseBy}
+use Rattle.whole_files.specs.Claims.{raised_by}
 use Rattle.file_commands.specs.Possible.{most_written, MayHaveWritten}
 use Rattle.file_commands.specs.declared.stamp.Stamp.{Stamp}
 use Rattle.file_commands.proofs.Causes.{counted-quiet}
+use Rattle.file_commands.proofs.Exact.{exact-quiet}
 use Rattle.file_commands.proofs.Possible.{none-done}
 use Rattle.expect_actions.specs.Watch.{WatchState}
 use Rattle.nova_machine.specs.Seen.{erased, seen, beside}
@@ -58,10 +60,10 @@ use Rattle.state_commands.specs.StateFaults.{save_fault}
 use Rattle.command_session.specs.FileEffects.{flushed_files}
 use Rattle.command_session.specs.Remains.{Remains}
 use Rattle.state_commands.specs.StateEffects.{save_notes}
-use Rattle.command_session.specs.Doing.{Keeps, FileCause}
+use Rattle.command_session.specs.Doing.{Keeps, FileCause, is_missing}
 use Rattle.command_session.proofs.CloseLemmas.{refused-first}
 use Rattle.command_session.proofs.DidLemmas.{did-want}
-use Rattle.command_session.proofs.CountedLemmas.{counted-fault}
+use Rattle.command_session.proofs.CountedLemmas.{counted-fault, exact-fault, openings-none}
 use Rattle.command_session.proofs.SeenLemmas.{attached-erased}
 use Rattle.state_commands.proofs.LateClaims.{IsUnmet, late-unmet, unmet-none, IsFlushed, files-unmet, copy-unmet, unsaved-unmet, copy-clean}
 use Rattle.command_session.proofs.ReplyLemmas.{silent-does}
@@ -197,6 +199,11 @@ quiet-keeps number time tells answer notes notes' old mid new quiet k = record {
     openings = subst (λ (n : ℕ). RoseBy (openings_noted k.kept) n new.open_faults) quiet.openings k.counted.openings;
     possible = k.counted.possible;
   };
+  exact = record {
+    files = λ file none. subst (λ (f : ℕ → ℕ). new.faults file ≡ raised_by (noted file k.kept) (f file)) quiet.counts (k.exact.files file (λ is. absurd (cc)));
+    ids = let same = quiet.ids in let later = k.exact.ids in omega (arith, same, later);
+  };
+  openings = subst (λ (n : ℕ). new.open_faults ≡ raised_by (openings_noted k.kept + one_if (is_missing answer && not tells)) n) quiet.openings k.openings;
   cause = by answer k.cause;
 }
   where
@@ -234,6 +241,10 @@ refused-keeps number time tells (save.Failed f) answer slots notes notes' old ne
       few = omega arith;
       stamped = ((refl, refl), tt);
       counted = counted-fault stamp f slots old new (digest-possible f cause.calls) cause.fault;
+      exact = exact-fault false stamp f slots old new cause.fault;
+      openings =
+          openings-none tells (Err (save_fault (save.Failed f))) (fault_note stamp f ∷ []) old new refl cause.fault.openings
+          (counted-fault stamp f slots old new (digest-possible f cause.calls) cause.fault);
       cause = refused-first (subject.Unit f.unit) (fault_note stamp f) [] (refl, digest-open f cause.calls) tt;
     })
   where
@@ -241,7 +252,7 @@ refused-keeps number time tells (save.Failed f) answer slots notes notes' old ne
     stamp = record { command = number; time = time }
 refused-keeps number time tells save.OutOfMemory answer slots notes notes' old new cause noted answered =
     subst (λ (a : Answer). Keeps number time tells a notes notes' old new) (sym answered)
-    (record { kept = []; added = noted; few = omega arith; stamped = tt; counted = counted-quiet old new cause; cause = tt })
+    (record { kept = []; added = noted; few = omega arith; stamped = tt; counted = counted-quiet old new cause; exact = exact-quiet false old new cause; openings = openings-none tells (Err (save_fault save.OutOfMemory)) [] old new refl cause.openings (counted-quiet old new cause); cause = tt })
 
 -- ---- what is left of the machine
 

@@ -95,7 +95,7 @@ pub fn restore<U: Unit, F: Files, L: Lines>(
         → IsUnrefused (Restore force name.now) session.old.machine session.old.watch }
     ensures measured { result ≡ Err OutOfMemory
         → WholeCause F.tells name.now (Err whole_want) (F.state files.old) (F.state files.new) }
-    ensures keeps { KeepsBy true session.old.command session.old.machine.time session.new.machine.time F.tells result
+    ensures keeps { KeepsBy true true session.old.command session.old.machine.time session.new.machine.time F.tells result
         session.old.notes session.new.notes (F.state files.old) (F.state files.new) }
     ensures whose { AreOwn session.old.machine.slots session.new.machine.slots session.old.notes session.new.notes
         (F.state files.old) (F.state files.new) }

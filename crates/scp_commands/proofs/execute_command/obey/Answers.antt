@@ -1,4 +1,4 @@
-use Rattle.std.proofs.Common.{Bool, refl, ap, sym, ◌∙◌, subst, Some}
+use Rattle.std.proofs.Common.{Bool, refl, ap, sym, ◌∙◌, subst, Some, false}
 use Rattle.file_commands.specs.Notes.{notes_said}
 use Rattle.host_lines.specs.Told.{Heard}
 use Rattle.scp_parser.specs.Command.{request_of, Request, Save, Restore}
@@ -8,7 +8,8 @@ use Rattle.command_session.proofs.KeptLemmas.{lines-kept}
 use Rattle.scp_commands.proofs.ObeyLemmas.{noted-did, save-named, restore-named, as-kept}
 use Rattle.command_session.proofs.ListenLemmas.{unlistened, own-no-port}
 use Rattle.command_session.specs.Nature.{nature}
-use Rattle.command_session.specs.Doing.{says_files, IsTold, IsUndone, KeepsBy, is_restore, Did}
+use Rattle.command_session.specs.Doing.{says_files, IsTold, IsUndone, KeepsBy, is_restore, attaches_file, Did}
+use Rattle.host_commands.proofs.HostLemmas.{kept-as}
 use Rattle.command_session.specs.Remains.{AreLeft}
 use Rattle.state_commands.specs.StateEffects.{save_reply, restore_reply}
 use Rattle.state_commands.specs.StateAnswers.{PutsSessionBack}
@@ -70,7 +71,9 @@ pub returns-in-Save-clause-keeps : goal.returns-in-Save-clause-keeps
 returns-in-Save-clause-keeps g c =
     as-kept c.args.command.now c.args.session.now.command c.args.session.now.machine.time c.save.new.session.machine.time g.F.Files.tells c.save.result
     c.args.session.now.notes c.save.new.session.notes (g.F.Files.state c.args.files.now) (g.F.Files.state c.save.new.files)
-    (ap is_restore (sym c.command.view_is ∙ ap (request_of _) c.in-Save.is)) c.save.ensures.keeps
+    (ap is_restore (sym c.command.view_is ∙ ap (request_of _) c.in-Save.is))
+    (kept-as false c.args.command.now c.args.session.now.command c.save.new.session.machine.time g.F.Files.tells c.save.result c.args.session.now.notes c.save.new.session.notes
+    (g.F.Files.state c.args.files.now) (g.F.Files.state c.save.new.files) (ap attaches_file (sym c.command.view_is ∙ ap (request_of _) c.in-Save.is)) c.save.ensures.keeps)
 
 pub returns-in-Restore-clause-told : goal.returns-in-Restore-clause-told
 unfolding effect
@@ -133,9 +136,9 @@ returns-in-Restore-clause-unrefused g c = λ is.
 
 pub returns-in-Restore-clause-keeps : goal.returns-in-Restore-clause-keeps
 returns-in-Restore-clause-keeps g c =
-    subst (λ (b : Bool). KeepsBy b c.args.session.now.command c.args.session.now.machine.time c.restore.new.session.machine.time g.F.Files.tells c.restore.result
+    subst (λ (r : Request). KeepsBy (is_restore r) (attaches_file r) c.args.session.now.command c.args.session.now.machine.time c.restore.new.session.machine.time g.F.Files.tells c.restore.result
     c.args.session.now.notes c.restore.new.session.notes (g.F.Files.state c.args.files.now) (g.F.Files.state c.restore.new.files))
-    (sym (ap is_restore (sym c.command.view_is ∙ ap (request_of _) c.in-Restore.is))) c.restore.ensures.keeps
+    (sym (sym c.command.view_is ∙ ap (request_of _) c.in-Restore.is)) c.restore.ensures.keeps
 
 pub returns-in-Save-clause-back : goal.returns-in-Save-clause-back
 returns-in-Save-clause-back g c =
