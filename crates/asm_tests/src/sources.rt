@@ -35,7 +35,8 @@ A: .WORD 177777~.WORD A~.WORD A+77777 | 3 fdff00000580ffff0000ff7f01000080ff7f
 ; texts: of odd length, of even length, empty, with escapes and a comment's sign
 .TXT \"AB\"~.TXT \"ABC\"~.TXT \"\"~.TXT \"\\\"\\\\\\r\\n\\t\\001;\" ; text | 9 f7ff00001ec7424100004241004300005c220a0d0109003b01000080ff7f
 ; comments, blanks, tabs and a CR
- ; nothing~\tLABEL\t:\t.WORD\t5\t;five~.WORD 6␣ | 2 feff0000f7ff0500060001000080ff7f
+ ; nothing~\tLABEL\t:\t.WORD\t5\t;five~.WORD 6␣~ | 2 feff0000f7ff0500060001000080ff7f
+.WORD 6␣ | BadLine 1
 ; each .LOC begins a block, also to the place where it stands
 .WORD 1~.LOC 1~.WORD 2~.LOC 20~.LOC 30~.WORD 3 | 3 ffff000000000100ffff0100feff0200ffff1800e6ff030001000080ff7f
 ; a block has 16 words at most
