@@ -110,7 +110,8 @@ fn digit(value: u8) -> u8 {
 fn is_tape(tape: &[u8], digits: &[u8]) -> bool {
     let mut place = 0;
     for byte in tape.iter() {
-        if digits.len() - place < 2
+        if place >= digits.len()
+            || digits.len() - place < 2
             || digits[place] != digit(*byte / 16)
             || digits[place + 1] != digit(*byte % 16)
         {
