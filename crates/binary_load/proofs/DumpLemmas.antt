@@ -119,14 +119,14 @@ front_words size place origin check words more some few within add_up =
     ∙ ap (λ (x : List ℕ). Passes (stores_from origin (words_of x)) (6 + 2 * n)) behind
     ∙ ap (λ (x : List ℕ). Passes (stores_from origin x) (6 + 2 * n)) (words_back words)
 
-front_data : (size place origin : ℕ) (words more : List ℕ) → 0 < length words → length words ≤ 16 →
+pub front_data : (size place origin : ℕ) (words more : List ℕ) → 0 < length words → length words ≤ 16 →
     origin + length words ≤ size →
     front size place (data_block origin words ++ more) ≡ Passes (stores_from origin words) (6 + 2 * length words)
 front_data size place origin words more some few within =
     front_words size place origin (checksum ((2 ^ 16 - length words) ∷ origin ∷ words)) words more some few within
     (sum_zero (2 ^ 16 - length words) origin words)
 
-start_low : (start : ℕ) → start < 2 ^ 15 → start_at start ≡ Some start
+pub start_low : (start : ℕ) → start < 2 ^ 15 → start_at start ≡ Some start
 start_low start low = grind (arith, nat_tests)
 
 pub block_start : (size place : ℕ) (rest : List ℕ) → block_fault place rest 0 ≡ None →
@@ -149,17 +149,17 @@ front_start size place start low =
 
 -- blocks, one behind another
 
-blocks_more : (more origin : ℕ) (words : List ℕ) →
+pub blocks_more : (more origin : ℕ) (words : List ℕ) →
     data_blocks (suc more) origin words
     ≡ data_block origin (take 16 words) ++ data_blocks more (origin + 16) (drop 16 words)
 unfolding data_blocks
 blocks_more more origin words = refl
 
-blocks_none : (origin : ℕ) (words : List ℕ) → data_blocks 0 origin words ≡ []
+pub blocks_none : (origin : ℕ) (words : List ℕ) → data_blocks 0 origin words ≡ []
 unfolding data_blocks
 blocks_none origin words = refl
 
-no_words : (words : List ℕ) → length words ≡ 0 → words ≡ []
+pub no_words : (words : List ℕ) → length words ≡ 0 → words ≡ []
 no_words [] none = refl
 no_words (w ∷ words) none = absurd (omega arith)
 

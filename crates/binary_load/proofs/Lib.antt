@@ -1,7 +1,8 @@
 pub mod DumpLemmas
-pub mod GrammarLemmas
-pub mod ReadingLemmas
-pub mod StoreLemmas
-pub mod RangeLemmas
-pub mod FormLemmas
 pub mod FaultLemmas
+pub mod FormLemmas
+pub mod GrammarLemmas
+pub mod RangeLemmas
+pub mod ReadingLemmas
+pub mod RunLemmas
+pub mod StoreLemmas

@@ -1,5 +1,6 @@
 ghost use Rattle.std.specs.Prelude.{◌≡◌, ◌+◌, ◌-◌, ◌%◌, ◌/◌, ◌^◌, ◌<◌, ◌≤◌, ◌∷◌, [], ◌++◌, IfOk, length, sum};
-ghost use Rattle.binary_load.specs.Dump.{dumped, words_from, block, blocks_of, checksum};
+ghost use Rattle.binary_load.specs.Dump.{dumped, words_from, block, blocks_of, start_block, checksum};
+ghost use Rattle.binary_load.specs.Runs.{start_origin};
 
 use byteorder::{ByteOrder, LittleEndian};
 use nova_memory::Memory;
@@ -21,8 +22,8 @@ pub fn dump(
 {
     let words = words_from(alloc, memory, from, to)?;
     let mut tape = Vec::new(alloc);
-    push_blocks(&mut tape, from.number(), &words)?;
-    push_block(&mut tape, 1, start.number(), &[])?;
+    push_words(&mut tape, from.number(), &words)?;
+    push_start(&mut tape, Some(start))?;
     Ok(tape)
 }
 
@@ -39,8 +40,9 @@ fn words_from(alloc: Global, memory: &Memory, from: Addr, to: Addr) -> Result<Ve
     Ok(words)
 }
 
-// Puts words behind a tape, for the addresses from an origin on, 16 to a block.
-fn push_blocks(tape: &mut Vec<u8>, origin: u16, words: &[u16]) -> Result<(), AllocError>
+/// Puts words behind a tape, for the addresses from an origin on, 16 to a block. Want of memory leaves a part of them
+/// there.
+pub fn push_words(tape: &mut Vec<u8>, origin: u16, words: &[u16]) -> Result<(), AllocError>
     requires { origin + length words.now ≤ 2 ^ 15 }
     ensures { IfOk result (λ _. tape.new.items ≡ tape.old.items ++ blocks_of origin words.now) }
 {
@@ -54,6 +56,23 @@ fn push_blocks(tape: &mut Vec<u8>, origin: u16, words: &[u16]) -> Result<(), All
         rest = others;
     }
     Ok(())
+}
+
+/// Puts a start block behind a tape, or one that says that there is no start. Want of memory leaves a part of it there.
+pub fn push_start(tape: &mut Vec<u8>, start: Option<Addr>) -> Result<(), AllocError>
+    ensures { IfOk result (λ _. tape.new.items ≡ tape.old.items ++ start_block (start_origin start)) }
+{
+    push_block(tape, 1, origin_of(start), &[])
+}
+
+// The origin of a start block: bit 0 alone where there is no start.
+fn origin_of(start: Option<Addr>) -> u16
+    ensures { result ≡ start_origin start }
+{
+    match start {
+        Some(at) => at.number(),
+        None => 1 << 15,
+    }
 }
 
 // Puts a block behind a tape.

@@ -1,4 +1,4 @@
-ghost use Rattle.binary_load.specs.Laws.{DumpsReadBack, TapesAreRead, TapesHaveForms};
+ghost use Rattle.binary_load.specs.Laws.{DumpsReadBack, TapesAreRead, TapesHaveForms, RunsReadBack, LastStoresStay};
 
 /// The law that a dump says exactly the dumped words at their addresses, and the start, to every memory that has these
 /// addresses.
@@ -15,4 +15,15 @@ pub fn tapes_are_read()
 /// stands in them as the forms of tapes say.
 pub fn tapes_have_forms()
     ensures { TapesHaveForms }
+{}
+
+/// The law that a tape of runs says exactly their words at their addresses, in their order, and the start or that there
+/// is none.
+pub fn runs_read_back()
+    ensures { RunsReadBack }
+{}
+
+/// The law that after stores each word of a memory is that of the last store to its address, or as it was.
+pub fn last_stores_stay()
+    ensures { LastStoresStay }
 {}

@@ -5,3 +5,4 @@ pub mod Naming
 pub mod Operands
 pub mod Reading
 pub mod Faults
+pub mod Reference

@@ -4,3 +4,4 @@ pub mod WidthLemmas
 pub mod QuotedByteLemmas
 pub mod QuotedLemmas
 pub mod QuotedReadLemmas
+pub mod QuotedSkipLemmas

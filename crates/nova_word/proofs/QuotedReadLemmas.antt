@@ -17,7 +17,7 @@ unfolding inside_read
 passed [] rest = refl
 passed (b ∷ front) rest = passed front rest
 
-read_next : (b c : ℕ) (front rest : List ℕ) → (c == 34) ≡ false →
+pub read_next : (b c : ℕ) (front rest : List ℕ) → (c == 34) ≡ false →
     byte_at (c ∷ (front ++ rest)) ≡ Some (b, suc (length front)) →
     inside_read 0 (c ∷ (front ++ rest)) ≡ option_map (with_byte b) (inside_read 0 rest)
 unfolding inside_read
@@ -67,7 +67,7 @@ pub closed_end : is_some (inside_read 0 []) ≡ false
 unfolding inside_read
 closed_end = refl
 
-plain_no_quote : (b : ℕ) → (b ≡ 34 → ⊥) → (b == 34) ≡ false
+pub plain_no_quote : (b : ℕ) → (b ≡ 34 → ⊥) → (b == 34) ≡ false
 plain_no_quote b no_quote = grind (arith, nat_tests)
 
 -- the same of bytes that are not empty, by the first of them

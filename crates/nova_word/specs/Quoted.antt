@@ -77,6 +77,11 @@ unfoldable pub quoted_read : List ℕ → Option (List ℕ × List ℕ)
 quoted_read [] = None
 quoted_read (b ∷ rest) = if b == 34 then inside_read 0 rest else None
 
+-- how many bytes a quoted text has behind those that were counted, and what follows it
+abbrev pub counted : ℕ → Option (List ℕ × List ℕ) → Option (ℕ × List ℕ)
+counted n (Some q) = Some (n + length q.0, q.1)
+counted n None = None
+
 -- the function finds the quoted text that a line begins with, and finds none only where there is none
 pub record QuotedIsComputed : Type 0 where
   pub found : (line text rest : List ℕ) → BeginsQuoted line text rest → quoted_read line ≡ Some (text, rest)

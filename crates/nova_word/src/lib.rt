@@ -9,5 +9,5 @@ pub use numbers::{
     NumberFault, digits_read_back, octal_width, read_decimal, read_octal, texts_have_one_answer,
     write_octal,
 };
-pub use quoted::{quoted_texts_are_unambiguous, read_quoted};
+pub use quoted::{quoted_texts_are_unambiguous, read_quoted, skip_quoted};
 pub use words::{Addr, Word};

@@ -1,6 +1,6 @@
 ghost use Rattle.std.specs.Prelude.{◌≡◌, ℕ, ◌+◌, ◌<◌, ◌≤◌, length, take, drop, MatchOption, IfSome, None, option_map, is_some};
 ghost use Rattle.nova_word.specs.Quoted.{is_plain, octal_at, escaped_at, byte_at, BeginsQuoted, BeginsUnquoted};
-ghost use Rattle.nova_word.specs.Quoted.{QuotedIsUnique, QuotedIsComputed, quoted_read, inside_read};
+ghost use Rattle.nova_word.specs.Quoted.{QuotedIsUnique, QuotedIsComputed, quoted_read, inside_read, counted};
 
 use crate::numbers::is_digit;
 
@@ -27,6 +27,47 @@ pub fn read_quoted(text: &[u8], out: &mut [u8]) -> Option<(usize, usize)>
     } else {
         None
     }
+}
+
+/// How many bytes the quoted text has that `text` begins with, and what follows its closing quote. `None` comes exactly
+/// where it begins with no quoted text.
+#[tactic(auto, unfolding(crate::specs::Quoted::quoted_read))]
+pub fn skip_quoted(text: &[u8]) -> Option<(usize, &[u8])>
+    ensures skipped { option_map (λ q. (q.0, q.1.now)) result ≡ counted 0 (quoted_read text.now) }
+    ensures shorter { IfSome result (λ q. q.0 + length q.1.now ≤ length text.now) }
+{
+    match text.split_first() {
+        None => None,
+        Some((first, inside)) => {
+            if *first == b'"' {
+                skip_inside(inside)
+            } else {
+                None
+            }
+        }
+    }
+}
+
+// The same behind the opening quote.
+fn skip_inside(inside: &[u8]) -> Option<(usize, &[u8])>
+    ensures skipped { option_map (λ q. (q.0, q.1.now)) result ≡ counted 0 (inside_read 0 inside.now) }
+    ensures shorter { IfSome result (λ q. q.0 + length q.1.now ≤ length inside.now) }
+{
+    let mut count = 0;
+    let mut rest = inside;
+    while !rest.is_empty() {
+        if rest[0] == b'"' {
+            return Some((count, &rest[1..]));
+        }
+        match byte_at(rest) {
+            None => return None,
+            Some((_, width)) => {
+                count += 1;
+                rest = &rest[width..];
+            }
+        }
+    }
+    None
 }
 
 // Whether a text begins with a quoted text.

@@ -1,6 +1,6 @@
 use Rattle.std.proofs.Common.{◌≡◌, ◌+◌, ◌^◌, ◌≤◌, ◌++◌, length}
 use Rattle.binary_load.specs.Dump.{blocks_of}
-use Rattle.binary_load.proofs.dumping.push_blocks.Given as goal
+use Rattle.binary_load.proofs.dumping.push_words.Given as goal
 
 abbrev pub invariant-loop-rest : goal.invariant-loop-rest
 invariant-loop-rest l = record {

@@ -1,7 +1,7 @@
 use Rattle.std.proofs.Common.{◌≡◌, ◌<◌, length, arith}
 use Rattle.std.proofs.lemmas.Bool.Decides.{nat_tests}
 use Rattle.binary_load.proofs.DumpLemmas.{blocks_next, blocks_all}
-use Rattle.binary_load.proofs.dumping.push_blocks.Goals as goal
+use Rattle.binary_load.proofs.dumping.push_words.Goals as goal
 
 pub loop-rest-preserved : goal.loop-rest-preserved
 loop-rest-preserved c =
