@@ -78,8 +78,8 @@ pub(crate) fn write_to(mut stream: &TcpStream, bytes: &[u8]) -> Answered<usize>
     Answered::Failed
 }
 
-/// Receives bytes on a socket into the front of `buf`, at most 64. It reads into bytes of its own, and hands on those that
-/// came: what the system leaves behind these, or where it fails, reaches no buffer that was lent.
+/// Receives bytes on a socket into the front of `buf`, at most 64. It reads into bytes of its own, and hands on those
+/// that came: what the system leaves behind these, or where it fails, reaches no buffer that was lent.
 pub(crate) fn receive_from(stream: &TcpStream, buf: &mut [u8]) -> Result<Received, LineFault>
     ensures bound { received_count result ≤ length buf.new }
     ensures lent { LeavesRest result buf.old buf.new }
@@ -112,7 +112,8 @@ fn hand_on(piece: &[u8], count: usize, buf: &mut [u8])
     buf[..count].copy_from_slice(&piece[..count]);
 }
 
-/// What a call that receives answers where its read into so many bytes came to that; a read of none into some is the end.
+/// What a call that receives answers where its read into so many bytes came to that; a read of none into some is the
+/// end.
 pub(crate) fn received(most: usize, read: Answered<usize>) -> Result<Received, LineFault>
     requires { IsAtMost most read }
     ensures answer { result ≡ received_as most read }

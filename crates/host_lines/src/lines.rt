@@ -47,8 +47,8 @@ pub trait Lines {
     /// What contracts see of them.
     ghost state: { Self → LineState };
 
-    /// Listens on a port. `Failed` counts one fault; `OutOfMemory` comes before any call is made, and counts none. After
-    /// either the ports that are listened on are those of before.
+    /// Listens on a port. `Failed` counts one fault; `OutOfMemory` comes before any call is made, and counts none.
+    /// After either the ports that are listened on are those of before.
     fn listen(&mut self, alloc: Global, port: u16) -> Result<(), ListenFault>
         ensures told { IsTrue tells → Listens (state self.old).told (state self.new).told result }
         ensures ports { (state self.new).listens ≡ ports_after port result (state self.old).listens }
@@ -80,8 +80,8 @@ pub trait Lines {
         ensures sent { (state self.new).sent ≡ (state self.old).sent }
         ensures counts { CountsFault (state self.old).faults (state self.new).faults result };
 
-    /// Puts bytes that have come on a connection into the front of `buf`, and leaves the rest of it as it was: all of it
-    /// where none came. `HungUp` ends the connection, and is the answer for one that does not stand. A `LineFault`
+    /// Puts bytes that have come on a connection into the front of `buf`, and leaves the rest of it as it was: all of
+    /// it where none came. `HungUp` ends the connection, and is the answer for one that does not stand. A `LineFault`
     /// counts one fault; nothing was received then, and the connection stands as before.
     fn receive(&mut self, conn: ConnId, buf: &mut [u8], now: u64) -> Result<Received, LineFault>
         ensures bound { received_count result ≤ length buf.new }
@@ -95,8 +95,8 @@ pub trait Lines {
         ensures sent { (state self.new).sent ≡ (state self.old).sent }
         ensures counts { CountsFault (state self.old).faults (state self.new).faults result };
 
-    /// Sends first bytes of a piece, and answers how many, which may be 0, and is where the connection does not stand. A
-    /// `LineFault` counts one fault; nothing was sent then, and the connection stands as before.
+    /// Sends first bytes of a piece, and answers how many, which may be 0, and is where the connection does not
+    /// stand. A `LineFault` counts one fault; nothing was sent then, and the connection stands as before.
     fn send(&mut self, conn: ConnId, bytes: &[u8], now: u64) -> Result<usize, LineFault>
         ensures bound { sent_count result ≤ length bytes.now }
         ensures told { IsTrue tells → Gives (state self.old).told (state self.new).told
