@@ -286,10 +286,14 @@ impl<'a, N: Net> Lines for RealLines<'a, N> {
         }
     }
 
+    /// Closes the port. Whoever has connected and was not accepted is refused; the connections that stand go on.
     fn unlisten(&mut self, port: u16) {
         self.close(port);
     }
 
+    /// Accepts the next caller of a port; none where nobody waits, while calls of the port rest, and where it is not
+    /// listened on. A fault is counted where the system fails, and where no number or no place is left; that caller's
+    /// connection has ended then.
     fn accept(&mut self, port: u16, _now: u64) -> Result<Option<ConnId>, LineFault> {
         match place_of_port(self.ports.as_slice(), port) {
             Some(place) => self.accept_at(place),
@@ -297,6 +301,9 @@ impl<'a, N: Net> Lines for RealLines<'a, N> {
         }
     }
 
+    /// Receives at most 64 bytes; none yet where none has come, and while calls of the connection rest. `HungUp` comes
+    /// at the caller's end, and where the connection does not stand; its socket is closed then. A fault is counted
+    /// where the system fails, and the connection stands.
     fn receive(&mut self, conn: ConnId, buf: &mut [u8], _now: u64) -> Result<Received, LineFault> {
         match place_of_connection(self.connections.as_slice(), conn) {
             Some(place) => self.receive_at(place, conn, buf),
@@ -304,6 +311,8 @@ impl<'a, N: Net> Lines for RealLines<'a, N> {
         }
     }
 
+    /// Hands first bytes of a piece to the system; 0 where that would have to wait, and where the connection does not
+    /// stand. A fault is counted where the system fails, and the connection stands.
     fn send(&mut self, conn: ConnId, bytes: &[u8], _now: u64) -> Result<usize, LineFault> {
         let Some(place) = place_of_connection(self.connections.as_slice(), conn) else {
             return Ok(0);
