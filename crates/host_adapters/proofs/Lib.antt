@@ -1,3 +1,4 @@
 mod Pieces
 mod Pages
 mod Numbers
+mod Given

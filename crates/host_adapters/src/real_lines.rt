@@ -1,8 +1,9 @@
-ghost use Rattle.std.specs.Prelude.{◌≡◌, ◌<◌, [], ◌∷◌, ◌++◌, length, IfSome, IfNone, OnOk, OnErr};
+ghost use Rattle.std.specs.Prelude.{◌≡◌, ◌<◌, ◌+◌, ◌==◌, [], ◌∷◌, ◌++◌, false, length, IfSome, IfNone, OnOk, OnErr};
+ghost use Rattle.std.specs.List.{position};
 ghost use Rattle.fault_counts.specs.Faults.{raised};
-ghost use Rattle.host_adapters.specs.RealLines.{without_number};
+ghost use Rattle.host_adapters.specs.RealLines.{without_number, is_in, port_of, number_of};
 
-use crate::sockets::{Answered, accept_from, read_from, write_to};
+use crate::sockets::{Answered, accept_from, receive_from, sent, write_to};
 use fault_counts::raised_count;
 use host_lines::{ConnId, LineFault, Lines, ListenFault, OutOfMemory, Received};
 use mio::net::{TcpListener, TcpStream};
@@ -11,6 +12,9 @@ use std::io;
 use std::io::ErrorKind;
 use std::marker::Model;
 use std::net::{Ipv4Addr, Net, SocketAddr};
+
+/// The address that ports are listened on: only callers of this computer reach it.
+const ADDRESS: Ipv4Addr = Ipv4Addr::LOCALHOST;
 
 /// How many calls behind one that would have to wait are answered without the system being asked.
 const RESTS: u32 = 63;
@@ -48,17 +52,24 @@ pub struct RealLines<'a, N: Net> {
 
 impl<'a, N: Net> Model for RealLines<'a, N> {
     ghost use Rattle.std.specs.Prelude.{map};
-    ghost use Rattle.host_adapters.specs.RealLines.{SocketState, port_of, number_of};
+    ghost use Rattle.host_adapters.specs.RealLines.{SocketState, AreGiven, given_before, port_of, number_of};
 
     ghost Value = { SocketState };
 
-    ghost view = { λ l. record { ports = map port_of l.ports.items; connections = map number_of l.connections.items; faults = l.faults } };
+    ghost view = { λ l. record {
+      ports = map port_of l.ports.items;
+      connections = map number_of l.connections.items;
+      given = given_before l.next;
+      faults = l.faults;
+    } };
+
+    ghost invariant = { λ l. AreGiven (given_before l.next) (map number_of l.connections.items) };
 }
 
 impl<'a, N: Net> RealLines<'a, N> {
     /// No port is listened on, no connection stands, and no call has failed.
     pub fn new(alloc: Global, net: &'a N) -> RealLines<'a, N>
-        ensures { result ≡ record { ports = []; connections = []; faults = 0 } }
+        ensures { result ≡ record { ports = []; connections = []; given = 0; faults = 0 } }
     {
         RealLines {
             net,
@@ -82,7 +93,7 @@ impl<'a, N: Net> RealLines<'a, N> {
         ensures ok { OnOk result (self.new ≡ record self.old { ports = self.old.ports ++ port ∷ [] }) }
         ensures refused { OnErr result (self.new ≡ self.old) }
     {
-        let address = SocketAddr::from((Ipv4Addr::LOCALHOST, port));
+        let address = SocketAddr::from((ADDRESS, port));
         let listener = TcpListener::bind(self.net, address)?;
         let opened = OpenPort {
             port,
@@ -104,7 +115,10 @@ impl<'a, N: Net> RealLines<'a, N> {
     /// Keeps an accepted connection under a number that was not given before. There is none, and the connection ends,
     /// where every number was given, or more connections stand than there is room for: one for each listening.
     fn keep(&mut self, stream: TcpStream) -> Option<ConnId>
-        ensures some { IfSome result (λ id. self.new ≡ record self.old { connections = self.old.connections ++ id.0 ∷ [] }) }
+        ensures some { IfSome result (λ id. self.new
+            ≡ record self.old { connections = self.old.connections ++ id.0 ∷ []; given = id.0 + 1 }) }
+        ensures next { IfSome result (λ id. id.0 ≡ self.old.given) }
+        ensures fresh { IfSome result (λ id. is_in self.old.connections id.0 ≡ false) }
         ensures none { IfNone result (self.new ≡ self.old) }
     {
         let conn = self.next?;
@@ -146,8 +160,7 @@ impl<'a, N: Net> RealLines<'a, N> {
 impl<'a, N: Net> RealLines<'a, N> {
     ghost use Rattle.std.specs.Prelude.{◌≤◌, Ok};
     ghost use Rattle.fault_counts.specs.Faults.{CountsFault};
-    ghost use Rattle.host_lines.specs.LineCalls.{accepted_after, received_after, received_count};
-    ghost use Rattle.host_adapters.specs.RealLines.{is_in};
+    ghost use Rattle.host_lines.specs.LineCalls.{accepted_after, received_after, received_count, LeavesRest};
 
     /// Whether a call on the port at a place rests. It rests once less then.
     fn port_rests(&mut self, place: usize) -> bool
@@ -212,6 +225,7 @@ impl<'a, N: Net> RealLines<'a, N> {
     ) -> Result<Received, LineFault>
         requires { place < length self.old.connections }
         ensures bound { received_count result ≤ length buf.new }
+        ensures lent { LeavesRest result buf.old buf.new }
         ensures ports { self.new.ports ≡ self.old.ports }
         ensures stands { is_in self.new.connections ≡ received_after conn.0 result (is_in self.old.connections) }
         ensures counts { CountsFault self.old.faults self.new.faults result }
@@ -219,26 +233,26 @@ impl<'a, N: Net> RealLines<'a, N> {
         if self.connection_rests(place) {
             return Ok(Received::NoneYet);
         }
-        match read_from(&self.connections[place].stream, buf) {
-            Answered::Waits => {
+        match receive_from(&self.connections[place].stream, buf) {
+            Ok(Received::NoneYet) => {
                 self.rest_connection(place, RESTS);
                 Ok(Received::NoneYet)
             }
-            Answered::Failed => Err(self.count_fault()),
-            Answered::Done(0) if !buf.is_empty() => Ok(self.hung_up(conn)),
-            Answered::Done(count) => Ok(Received::Bytes(count)),
+            Ok(Received::HungUp) => Ok(self.hung_up(conn)),
+            Ok(Received::Bytes(count)) => Ok(Received::Bytes(count)),
+            Err(LineFault) => Err(self.count_fault()),
         }
     }
 }
 
 fn place_of_port(ports: &[OpenPort], port: u16) -> Option<usize>
-    ensures { IfSome result (λ i. i < length ports.now) }
+    ensures { result ≡ position (λ p. port_of p == port) ports.now }
 {
     ports.iter().position(|p| p.port == port)
 }
 
 fn place_of_connection(connections: &[OpenConnection], conn: ConnId) -> Option<usize>
-    ensures { IfSome result (λ i. i < length connections.now) }
+    ensures { result ≡ position (λ c. number_of c == conn.0) connections.now }
 {
     connections.iter().position(|c| c.conn == conn.0)
 }
@@ -272,10 +286,14 @@ impl<'a, N: Net> Lines for RealLines<'a, N> {
         }
     }
 
+    /// Closes the port. Whoever has connected and was not accepted is refused; the connections that stand go on.
     fn unlisten(&mut self, port: u16) {
         self.close(port);
     }
 
+    /// Accepts the next caller of a port; none where nobody waits, while calls of the port rest, and where it is not
+    /// listened on. A fault is counted where the system fails, and where no number or no place is left; that caller's
+    /// connection has ended then.
     fn accept(&mut self, port: u16, _now: u64) -> Result<Option<ConnId>, LineFault> {
         match place_of_port(self.ports.as_slice(), port) {
             Some(place) => self.accept_at(place),
@@ -283,6 +301,9 @@ impl<'a, N: Net> Lines for RealLines<'a, N> {
         }
     }
 
+    /// Receives at most 64 bytes; none yet where none has come, and while calls of the connection rest. `HungUp` comes
+    /// at the caller's end, and where the connection does not stand; its socket is closed then. A fault is counted
+    /// where the system fails, and the connection stands.
     fn receive(&mut self, conn: ConnId, buf: &mut [u8], _now: u64) -> Result<Received, LineFault> {
         match place_of_connection(self.connections.as_slice(), conn) {
             Some(place) => self.receive_at(place, conn, buf),
@@ -290,14 +311,15 @@ impl<'a, N: Net> Lines for RealLines<'a, N> {
         }
     }
 
+    /// Hands first bytes of a piece to the system; 0 where that would have to wait, and where the connection does not
+    /// stand. A fault is counted where the system fails, and the connection stands.
     fn send(&mut self, conn: ConnId, bytes: &[u8], _now: u64) -> Result<usize, LineFault> {
         let Some(place) = place_of_connection(self.connections.as_slice(), conn) else {
             return Ok(0);
         };
-        match write_to(&self.connections[place].stream, bytes) {
-            Answered::Waits => Ok(0),
-            Answered::Failed => Err(self.count_fault()),
-            Answered::Done(count) => Ok(count),
+        match sent(write_to(&self.connections[place].stream, bytes)) {
+            Ok(count) => Ok(count),
+            Err(LineFault) => Err(self.count_fault()),
         }
     }
 

@@ -1,11 +1,16 @@
 // Calls on sockets that do not wait. One that a signal cut short is made again.
-ghost use Rattle.std.specs.Prelude.{length, IfSome};
-ghost use Rattle.host_adapters.specs.RealLines.{IsAtMost, IsDoneAs};
+ghost use Rattle.std.specs.Prelude.{◌≡◌, ◌≤◌, length, take, drop};
+ghost use Rattle.host_lines.specs.LineCalls.{received_count, LeavesRest};
+ghost use Rattle.host_adapters.specs.RealLines.{IsAtMost, Means, received_as, sent_as};
 
 use crate::retries::{RETRIES, is_tried_again};
+use host_lines::{LineFault, Received};
 use mio::net::{TcpListener, TcpStream};
 use std::io;
 use std::io::{ErrorKind, Read, Write};
+
+/// How many bytes one call receives at most.
+const PIECE: usize = 64;
 
 /// What a call on a socket came to.
 #[derive(Drop)]
@@ -18,7 +23,7 @@ pub enum Answered<T: Drop> {
 
 /// What an answer of the system means; none where the call is to be made again.
 fn meaning_of<T: Drop>(answer: io::Result<T>) -> Option<Answered<T>>
-    ensures { IfSome result (λ a. IsDoneAs answer a) }
+    ensures { Means answer result }
 {
     match answer {
         Ok(value) => Some(Answered::Done(value)),
@@ -71,4 +76,64 @@ pub(crate) fn write_to(mut stream: &TcpStream, bytes: &[u8]) -> Answered<usize>
         }
     }
     Answered::Failed
+}
+
+/// Receives bytes on a socket into the front of `buf`, at most 64. It reads into bytes of its own, and hands on those
+/// that came: what the system leaves behind these, or where it fails, reaches no buffer that was lent.
+pub(crate) fn receive_from(stream: &TcpStream, buf: &mut [u8]) -> Result<Received, LineFault>
+    ensures bound { received_count result ≤ length buf.new }
+    ensures lent { LeavesRest result buf.old buf.new }
+{
+    let mut piece = [0; PIECE];
+    let most = buf.len().min(PIECE);
+    let answer = receive_piece(stream, &mut piece[..most]);
+    if let Ok(Received::Bytes(count)) = answer {
+        hand_on(&piece, count, buf);
+    }
+    answer
+}
+
+/// Receives into a buffer of which nothing is kept but what came.
+fn receive_piece(stream: &TcpStream, piece: &mut [u8]) -> Result<Received, LineFault>
+    ensures { received_count result ≤ length piece.old }
+{
+    let most = piece.len();
+    received(most, read_from(stream, piece))
+}
+
+/// Copies so many first bytes of a piece.
+fn hand_on(piece: &[u8], count: usize, buf: &mut [u8])
+    requires piece { count ≤ length piece.now }
+    requires buf { count ≤ length buf.old }
+    ensures length { length buf.new ≡ length buf.old }
+    ensures rest { drop count buf.new ≡ drop count buf.old }
+    ensures bytes { take count buf.new ≡ take count piece.now }
+{
+    buf[..count].copy_from_slice(&piece[..count]);
+}
+
+/// What a call that receives answers where its read into so many bytes came to that; a read of none into some is the
+/// end.
+pub(crate) fn received(most: usize, read: Answered<usize>) -> Result<Received, LineFault>
+    requires { IsAtMost most read }
+    ensures answer { result ≡ received_as most read }
+    ensures bound { received_count result ≤ most }
+{
+    match read {
+        Answered::Waits => Ok(Received::NoneYet),
+        Answered::Failed => Err(LineFault),
+        Answered::Done(0) if most > 0 => Ok(Received::HungUp),
+        Answered::Done(count) => Ok(Received::Bytes(count)),
+    }
+}
+
+/// What a call that sends answers where its write came to that: none was taken where it would have to wait.
+pub(crate) fn sent(written: Answered<usize>) -> Result<usize, LineFault>
+    ensures { result ≡ sent_as written }
+{
+    match written {
+        Answered::Waits => Ok(0),
+        Answered::Failed => Err(LineFault),
+        Answered::Done(count) => Ok(count),
+    }
 }

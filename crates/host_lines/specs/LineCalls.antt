@@ -1,5 +1,5 @@
 -- What the calls on lines do.
-use Rattle.std.specs.Prelude.{◌≡◌, ◌≢◌, ℕ, Bool, false, List, take, Option, Some, None, Result, Ok, Err}
+use Rattle.std.specs.Prelude.{◌≡◌, ◌≢◌, ℕ, Bool, false, List, length, take, drop, Option, Some, None, Result, Ok, Err}
 use Rattle.fault_counts.specs.Faults.{raised}
 use Rattle.host_lines.specs.declared.lines.ConnId.{ConnId}
 use Rattle.host_lines.specs.declared.lines.LineFault.{LineFault}
@@ -33,6 +33,11 @@ received_count (Ok (received.Bytes n)) = n
 received_count (Ok received.NoneYet) = 0
 received_count (Ok received.HungUp) = 0
 received_count (Err fault) = 0
+
+-- What was lent to a call that receives is as it was behind the bytes that were received: all of it, where none were.
+abbrev pub LeavesRest : Result Received LineFault → List ℕ → List ℕ → Type 0
+LeavesRest result old new =
+    (length new ≡ length old) × (drop (received_count result) new ≡ drop (received_count result) old)
 
 abbrev pub sent_count : Result ℕ LineFault → ℕ
 sent_count (Ok n) = n

@@ -3,7 +3,7 @@ ghost use Rattle.fault_counts.specs.Faults.{CountsFault};
 ghost use Rattle.host_lines.specs.Traffic.{accepting, receiving, sending, sent_bytes};
 ghost use Rattle.host_lines.specs.Told.{Gives, heard_more};
 ghost use Rattle.host_lines.specs.State.{LineState, TellsPeers, parties, without_one};
-ghost use Rattle.host_lines.specs.LineCalls.{Listens, Accepts, Receives, OthersStay, ports_after, accepted_after, received_after, listen_faults, accept_answer, receive_answer, send_answer, sent_count, received_count};
+ghost use Rattle.host_lines.specs.LineCalls.{Listens, Accepts, Receives, OthersStay, ports_after, accepted_after, received_after, listen_faults, accept_answer, receive_answer, send_answer, sent_count, received_count, LeavesRest};
 
 use std::alloc::Global;
 
@@ -47,7 +47,8 @@ pub trait Lines {
     /// What contracts see of them.
     ghost state: { Self → LineState };
 
-    /// Listens on a port. Without memory for that it makes no call.
+    /// Listens on a port. `Failed` counts one fault; `OutOfMemory` comes before any call is made, and counts none.
+    /// After either the ports that are listened on are those of before.
     fn listen(&mut self, alloc: Global, port: u16) -> Result<(), ListenFault>
         ensures told { IsTrue tells → Listens (state self.old).told (state self.new).told result }
         ensures ports { (state self.new).listens ≡ ports_after port result (state self.old).listens }
@@ -67,7 +68,8 @@ pub trait Lines {
         ensures sent { (state self.new).sent ≡ (state self.old).sent }
         ensures counts { (state self.new).faults ≡ (state self.old).faults };
 
-    /// Accepts the first connection to a port that is due; none where nobody has connected.
+    /// Accepts the first connection to a port that is due, which stands then; none where nobody has connected. A
+    /// `LineFault` counts one fault; nobody was accepted then, and whoever has connected still waits.
     fn accept(&mut self, port: u16, now: u64) -> Result<Option<ConnId>, LineFault>
         ensures told { IsTrue tells → Gives (state self.old).told (state self.new).told
             (accepting port now) (accept_answer (parties (state self.new)) result) }
@@ -78,9 +80,12 @@ pub trait Lines {
         ensures sent { (state self.new).sent ≡ (state self.old).sent }
         ensures counts { CountsFault (state self.old).faults (state self.new).faults result };
 
-    /// Puts bytes that have come on a connection into the front of `buf`.
+    /// Puts bytes that have come on a connection into the front of `buf`, and leaves the rest of it as it was: all of
+    /// it where none came. `HungUp` ends the connection, and is the answer for one that does not stand. A `LineFault`
+    /// counts one fault; nothing was received then, and the connection stands as before.
     fn receive(&mut self, conn: ConnId, buf: &mut [u8], now: u64) -> Result<Received, LineFault>
         ensures bound { received_count result ≤ length buf.new }
+        ensures lent { LeavesRest result buf.old buf.new }
         ensures told { IsTrue tells → Gives (state self.old).told (state self.new).told
             (receiving (parties (state self.old) conn.0) (length buf.old) now) (receive_answer buf.new result) }
         ensures ports { (state self.new).listens ≡ (state self.old).listens }
@@ -90,7 +95,8 @@ pub trait Lines {
         ensures sent { (state self.new).sent ≡ (state self.old).sent }
         ensures counts { CountsFault (state self.old).faults (state self.new).faults result };
 
-    /// Sends first bytes of a piece, and answers how many, which may be 0.
+    /// Sends first bytes of a piece, and answers how many, which may be 0, and is where the connection does not
+    /// stand. A `LineFault` counts one fault; nothing was sent then, and the connection stands as before.
     fn send(&mut self, conn: ConnId, bytes: &[u8], now: u64) -> Result<usize, LineFault>
         ensures bound { sent_count result ≤ length bytes.now }
         ensures told { IsTrue tells → Gives (state self.old).told (state self.new).told

@@ -5,7 +5,7 @@ ghost use Rattle.host_lines.specs.declared.entry.CallerAct.TheVariants as acts;
 ghost use Rattle.host_lines.specs.Traffic.{accepting, receiving, sending, comes_from, caller_at, Gone, Caller, sent_bytes};
 ghost use Rattle.host_lines.specs.Told.{Gives, heard_more};
 ghost use Rattle.host_lines.specs.State.{parties, without_one};
-ghost use Rattle.host_lines.specs.LineCalls.{Listens, Accepts, Receives, OthersStay, ports_after, accepted_after, received_after, listen_faults, accept_answer, receive_answer, send_answer, sent_count, received_count};
+ghost use Rattle.host_lines.specs.LineCalls.{Listens, Accepts, Receives, OthersStay, ports_after, accepted_after, received_after, listen_faults, accept_answer, receive_answer, send_answer, sent_count, received_count, LeavesRest};
 ghost use Rattle.host_lines.specs.MemLines.{no_lines, with_entry, happens, with_failing, connects_of, peer_at, traffic_of, ended, given_after, IsNumbered};
 
 use crate::calls::Calls;
@@ -80,7 +80,8 @@ impl MemLines {
         })
     }
 
-    /// At that time a caller connects to a port. What is added later is due no earlier.
+    /// At that time, in instructions, a caller connects to a port, which is accepted by a later `accept` of that port.
+    /// What is added later is due no earlier. Where there is no memory, nothing has changed.
     pub fn add_connect(&mut self, time: u64, port: u16, caller: u32) -> Result<(), AllocError>
         requires order { self.old.last ≤ time }
         requires few { self.old.connects < 2 ^ 32 }
@@ -102,7 +103,8 @@ impl MemLines {
         Ok(())
     }
 
-    /// At that time a caller sends bytes on its connection.
+    /// At that time, in instructions, a caller sends bytes on its connection. Where there is no memory, nothing has
+    /// changed.
     pub fn add_bytes(&mut self, time: u64, caller: u32, bytes: &[u8]) -> Result<(), AllocError>
         requires order { self.old.last ≤ time }
         ensures ok { OnOk result (self.new ≡ with_entry (happens time caller acts.Sends bytes.now) self.old) }
@@ -120,7 +122,7 @@ impl MemLines {
         Ok(())
     }
 
-    /// At that time a caller hangs up.
+    /// At that time, in instructions, a caller hangs up. Where there is no memory, nothing has changed.
     pub fn add_hang_up(&mut self, time: u64, caller: u32) -> Result<(), AllocError>
         requires order { self.old.last ≤ time }
         ensures ok { OnOk result (self.new ≡ with_entry (happens time caller acts.HangsUp []) self.old) }
@@ -145,7 +147,7 @@ impl MemLines {
         self.most = most;
     }
 
-    /// Names a call that is to fail, by its number.
+    /// Names a call that is to fail, by its number. Where there is no memory, none is named, and nothing has changed.
     pub fn fail_call(&mut self, number: u64) -> Result<(), AllocError>
         ensures ok { OnOk result (self.new ≡ record self.old { calls = with_failing number self.old.calls }) }
         ensures refused { OnErr result (self.new ≡ self.old) }
@@ -232,6 +234,7 @@ impl Lines for MemLines {
 
     fn receive(&mut self, conn: ConnId, buf: &mut [u8], now: u64) -> Result<Received, LineFault>
         ensures bound { received_count result ≤ length buf.new }
+        ensures lent { LeavesRest result buf.old buf.new }
         ensures told { Gives (state_of self.old).told (state_of self.new).told
             (receiving (parties (state_of self.old) conn.0) (length buf.old) now) (receive_answer buf.new result) }
         ensures ports { (state_of self.new).listens ≡ (state_of self.old).listens }
@@ -331,6 +334,7 @@ impl MemLines {
     fn input(&mut self, conn: ConnId, caller: u32, buf: &mut [u8], now: u64) -> Received
         requires { peer_at (slice_get self.old.given conn.0) ≡ Caller caller }
         ensures bound { received_count (Ok result) ≤ length buf.new }
+        ensures lent { LeavesRest (Ok result) buf.old buf.new }
         ensures traffic { replied (receive_answer buf.new (Ok result)) (Script (traffic_of self.new))
             ≡ taken_input (length buf.old) (position (comes_from caller now) self.old.entries) (traffic_of self.old) }
         ensures given { self.new.given ≡ given_after conn.0 result self.old.given }

@@ -1,7 +1,7 @@
-ghost use Rattle.std.specs.Prelude.{◌≡◌, ◌≤◌, ◌<◌, ◌+◌, ◌∷◌, ◌++◌, [], length, take, get_or, sum_by, vec_len, vec_capacity, OnOk, OnErr, Ok};
+ghost use Rattle.std.specs.Prelude.{◌≡◌, ◌≤◌, ◌<◌, ◌+◌, ◌∷◌, ◌++◌, [], length, take, drop, get_or, sum_by, vec_len, vec_capacity, OnOk, OnErr, Ok};
 ghost use Rattle.std.specs.List.{position};
 ghost use Rattle.host_lines.specs.Traffic.{connects_to, comes_from, is_input, Caller, sent_bytes, input_answer, input_left, entries_behind, Happening};
-ghost use Rattle.host_lines.specs.LineCalls.{receive_answer, received_count};
+ghost use Rattle.host_lines.specs.LineCalls.{receive_answer, received_count, LeavesRest};
 ghost use Rattle.host_lines.specs.MemLines.{happens, connects_of};
 
 use crate::entry::{CallerAct, Entry};
@@ -53,6 +53,7 @@ fn is_input(does: CallerAct) -> bool
 pub(crate) fn take_input(entries: &mut Vec<Entry>, place: usize, buf: &mut [u8]) -> Received
     requires { place < length entries.old.items }
     ensures bound { received_count (Ok result) ≤ length buf.new }
+    ensures lent { LeavesRest (Ok result) buf.old buf.new }
     ensures answer { (d : Happening) → receive_answer buf.new (Ok result)
         ≡ input_answer (length buf.old) (get_or entries.old.items place d).does (get_or entries.old.items place d).bytes }
     ensures left { (d : Happening) → entries.new.items
@@ -73,6 +74,8 @@ pub(crate) fn take_input(entries: &mut Vec<Entry>, place: usize, buf: &mut [u8])
 fn take_bytes(entries: &mut Vec<Entry>, place: usize, buf: &mut [u8]) -> usize
     requires { place < length entries.old.items }
     ensures bound { result ≤ length buf.new }
+    ensures length { length buf.new ≡ length buf.old }
+    ensures rest { drop result buf.new ≡ drop result buf.old }
     ensures bytes { (d : Happening) → take result buf.new ≡ take (length buf.old) (get_or entries.old.items place d).bytes }
     ensures left { (d : Happening) → entries.new.items
         ≡ entries_behind (length buf.old) place (get_or entries.old.items place d) entries.old.items }

@@ -203,7 +203,7 @@ IsTurn first keys why watch watch' old new = ComesTo (went_on first) keys why wa
 
 -- Turns of a run that may make so many: whether the next is its first, how many are left, and what they leave. The turns
 -- that a burst stands for, which nothing outside the machine takes part in, are those that are defined. Services may come
--- before the turn that they belong to.
+-- before the turn that they belong to, and so none behind the last.
 pub data Turns (keys : List (ℕ × ℕ)) (count : ℕ) (watch : WatchState) (old : MachineState) : Bool → ℕ → WatchState → MachineState → Type 0 where
   no_turns : Turns keys count watch old true count watch old
   one_turn : (first : Bool) (left : ℕ) (between watch' : WatchState) (m new : MachineState) →
@@ -212,8 +212,8 @@ pub data Turns (keys : List (ℕ × ℕ)) (count : ℕ) (watch : WatchState) (ol
   some_turns : (left done : ℕ) (end : BurstEnd) (between : WatchState) (m new : MachineState) →
       Turns keys count watch old false left between m → end ≢ burst_end.ChainLimit → done ≤ left →
       Bursts between keys left done end m new → Turns keys count watch old false (left - done) between new
-  some_services : (left : ℕ) (between watch' : WatchState) (m new : MachineState) → Turns keys count watch old false left between m →
-      Services keys between m watch' new → Turns keys count watch old false left watch' new
+  some_services : (left : ℕ) (between watch' : WatchState) (m new : MachineState) → 0 < left →
+      Turns keys count watch old false left between m → Services keys between m watch' new → Turns keys count watch old false left watch' new
 
 -- A run of that many instructions at the most: its turns, and the end of the count, of time, of a turn that stops, or of a
 -- burst at a chain without an end.

@@ -86,7 +86,9 @@ fn whole(alloc: Global, bytes: &[u8]) -> Result<Saved, StateFault>
     seal(bytes, &mut cursor, saved)
 }
 
-/// Reads a state file, from all of its bytes.
+/// Reads a state file, from all of its bytes, to a session that is valid and whose text they are. The error is the
+/// first fault of the bytes from the left, and the digest's where there is no other; or `OutOfMemory`, where there is
+/// none for what they say. Nothing else is left behind either.
 pub fn read_state(alloc: Global, bytes: &[u8]) -> Result<Saved, StateFault>
     // What is read is valid, and the bytes are its text.
     ensures found { IfOk result (λ s. Valid (state_in s) × (bytes.now ≡ text (state_in s))) }

@@ -503,8 +503,9 @@ impl StateReader {
         self.settle()
     }
 
-    /// Takes the next piece. Of the faults of what came so far nothing is said before `finish`. Where memory runs out,
-    /// the reading is over.
+    /// Takes the next piece, of at most 4096 bytes, which come behind those that were fed before. Of the faults of what
+    /// came so far nothing is said before `finish`. The error is want of memory alone: the reading is over then, each
+    /// further piece is refused too, and `finish` answers `OutOfMemory`.
     pub fn feed(&mut self, piece: &[u8]) -> Result<(), AllocError>
         requires piece { length piece.now ≤ 4096 }
         // These bytes come behind those that were fed before.

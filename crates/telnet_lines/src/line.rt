@@ -93,7 +93,8 @@ impl Line {
         self.connection
     }
 
-    /// Begins a connection: nothing of an earlier one is left, and the opening waits to be sent.
+    /// Begins a connection that was accepted: of an earlier one no key, no output and nothing undecoded is left, and
+    /// the opening waits to be sent. No call is made on lines, and none can fail.
     pub fn connect(&mut self, conn: ConnId)
         requires { IsSome self.old.port }
         ensures { self.new ≡ connected conn.0 self.old }
@@ -113,7 +114,8 @@ impl Line {
         self.rest = NO_REST;
     }
 
-    /// Takes bytes that were received. Their keys wait to be taken.
+    /// Takes at most 64 bytes that were received, where no key waits. Their keys wait to be taken, and a sequence that
+    /// they do not end goes on with the next ones. It takes no memory, and can't fail.
     pub fn feed(&mut self, bytes: &[u8])
         requires connected { IsSome self.old.connection }
         requires few { length bytes.now ≤ 64 }

@@ -1,5 +1,5 @@
 -- A file is opened for a unit, its length is asked for, and the disk reads it whole.
-use Rattle.std.specs.Prelude.{◌≡◌, ◌≢◌, ◌⊎◌, ℕ, ◌+◌, ◌<◌, ◌≤◌, Bool, IsTrue, List, ◌∷◌, Some, None, Result, Ok, Err}
+use Rattle.std.specs.Prelude.{◌≡◌, ◌≢◌, ◌⊎◌, ℕ, ◌+◌, ◌<◌, ◌≤◌, Bool, IsTrue, List, ◌∷◌, Some, None, Result, Ok, Err, if◌then◌else◌}
 use Rattle.fault_counts.specs.Faults.{raised, Rose}
 use Rattle.file_traits.specs.declared.files.FileId.{FileId}
 use Rattle.file_traits.specs.declared.files.FileCall.{FileCall}
@@ -10,6 +10,7 @@ use Rattle.file_traits.specs.declared.files.OpenFault.TheVariants as opening
 use Rattle.file_traits.specs.State.{FileState, opened_at}
 use Rattle.unit_trait.specs.declared.kind.UnitName.{UnitName}
 use Rattle.unit_files.specs.declared.modes.AttachMode.{AttachMode}
+use Rattle.unit_files.specs.declared.modes.AttachMode.TheVariants as modes
 use Rattle.unit_files.specs.declared.faults.UnitFault.{UnitFault}
 use Rattle.unit_files.specs.declared.faults.AttachFault.{AttachFault}
 use Rattle.unit_files.specs.declared.faults.AttachFault.TheVariants as attach
@@ -51,6 +52,33 @@ OpensFor tells old new name mode (Err opening.NoFile) =
     × ((IsTrue tells → ⊥) → Rose old.open_faults new.open_faults)
 OpensFor tells old new name mode (Err opening.Failed) = IsNotOpened old new × Rose old.open_faults new.open_faults
 OpensFor tells old new name mode (Err opening.OutOfMemory) = IsNotOpened old new
+
+-- the count of openings behind one that answered so: one more where it failed, and where it answered `NoFile` of names
+-- that are not told
+abbrev pub count_behind : Bool → ℕ → Result FileId OpenFault → ℕ
+count_behind tells count (Ok id) = count
+count_behind tells count (Err opening.NoFile) = if tells then count else raised count
+count_behind tells count (Err opening.Failed) = raised count
+count_behind tells count (Err opening.OutOfMemory) = count
+
+-- .. behind the first of two, which found no file
+abbrev pub count_behind_none : Bool → ℕ → ℕ
+count_behind_none tells count = count_behind tells count (Err opening.NoFile)
+
+-- A file that is made where it is not there takes one opening, or two, of which the first found none. `NoFile` comes of
+-- the second alone.
+abbrev pub CountsOneOrTwo : Bool → ℕ → ℕ → Result FileId OpenFault → Type 0
+CountsOneOrTwo tells before now (Err opening.NoFile) =
+    now ≡ count_behind tells (count_behind_none tells before) (Err opening.NoFile)
+CountsOneOrTwo tells before now result =
+    (now ≡ count_behind tells before result) ⊎ (now ≡ count_behind tells (count_behind_none tells before) result)
+
+-- how the count of openings stands behind an opening for a unit: all modes but one make one opening of the files
+abbrev pub CountsOpenings : Bool → AttachMode → ℕ → ℕ → Result FileId OpenFault → Type 0
+CountsOpenings tells modes.Any before now result = CountsOneOrTwo tells before now result
+CountsOpenings tells modes.MustExist before now result = now ≡ count_behind tells before result
+CountsOpenings tells modes.New before now result = now ≡ count_behind tells before result
+CountsOpenings tells modes.ReadOnly before now result = now ≡ count_behind tells before result
 
 -- an opening that failed, said of a unit
 abbrev pub failed_opening : UnitName → UnitFault

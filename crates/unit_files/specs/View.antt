@@ -36,6 +36,14 @@ pub record IsNewCopy (d : DiskCopy) : Type 0 where
 abbrev pub IsEmptyCopy : DiskCopy → Type 0
 IsEmptyCopy d = (d.bytes.items ≡ []) × IsNewCopy d
 
+-- there is no copy, and it takes no memory
+pub record IsNoCopy (d : DiskCopy) : Type 0 where
+  pub bytes : d.bytes.items ≡ []
+  pub marks : d.marks.items ≡ []
+  pub written : d.written ≡ false
+  pub no_room : vec_capacity d.bytes ≡ 0
+  pub no_marks : vec_capacity d.marks ≡ 0
+
 -- Where a file is attached to the disk, there is a copy of it, and no sector of a file that is only read was written. Where
 -- none is attached, there is none. No page is marked where no sector was written.
 pub record CanWrite (slots : List (Option Held)) (d : DiskCopy) : Type 0 where

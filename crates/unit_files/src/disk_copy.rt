@@ -2,7 +2,7 @@ ghost use Rattle.std.specs.Prelude.{◌≡◌, ◌≤◌, ◌<◌, ◌*◌, ◌+
 ghost use Rattle.std.specs.Prelude.{vec_len, vec_capacity};
 ghost use Rattle.unit_files.specs.Buffer.{disk_bytes, disk_pages, disk_sectors, marked, page_of};
 ghost use Rattle.unit_files.specs.Buffer.{sector_bytes, sector_of, with_marks, with_sector};
-ghost use Rattle.unit_files.specs.View.{IsCopy, IsEmptyCopy, IsNewCopy, marks_of};
+ghost use Rattle.unit_files.specs.View.{IsCopy, IsEmptyCopy, IsNewCopy, IsNoCopy, marks_of};
 
 use crate::disk::SECTOR_BYTES;
 use crate::slots::DISK_BYTES;
@@ -27,9 +27,7 @@ pub(crate) struct DiskCopy {
 impl DiskCopy {
     /// Of no file.
     pub(crate) fn none(alloc: Global) -> DiskCopy
-        ensures bytes { result.bytes.items ≡ [] }
-        ensures marks { result.marks.items ≡ [] }
-        ensures written { result.written ≡ false }
+        ensures { IsNoCopy result }
     {
         DiskCopy {
             bytes: Vec::new(alloc),
@@ -55,13 +53,12 @@ impl DiskCopy {
 
     /// Lets its memory go.
     pub(crate) fn clear(&mut self)
-        ensures bytes { self.new.bytes.items ≡ [] }
-        ensures marks { self.new.marks.items ≡ [] }
-        ensures written { self.new.written ≡ false }
+        ensures { IsNoCopy self.new }
     {
         self.bytes.clear();
         self.bytes.shrink_to_fit();
         self.marks.clear();
+        self.marks.shrink_to_fit();
         self.written = false;
     }
 

@@ -26,12 +26,14 @@ pub enum AttachFault {
     OutOfMemory,
 }
 
-/// Why a unit was not detached.
+/// Why a unit was not detached, or its file not written back, or not digested. The unit keeps what it has.
 #[derive(Clone, Copy, Debug, PartialEq, Eq)]
 pub enum DetachFault {
-    /// The unit has no file.
+    /// The unit has no file. No call was made.
     NotAttached,
-    /// What it holds of its file could not be written. It is still attached.
+    /// A write of what it holds of its file failed: the pages in front are written, and of that page as much as the
+    /// fault says, which counts from the front of the file; all of them are still to be written back. Or, in a digest,
+    /// the length or a read failed, once all was written back.
     Failed(UnitFault),
 }
 

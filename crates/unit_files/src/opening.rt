@@ -1,4 +1,4 @@
-ghost use Rattle.std.specs.Prelude.{◌≡◌, ◌≤◌, IsTrue, IfSome, IfOk, OnOk, OnErr, None, length};
+ghost use Rattle.std.specs.Prelude.{◌≡◌, ◌≤◌, false, IsTrue, IsOk, IfSome, IfOk, OnOk, OnErr, None, length};
 ghost use Rattle.file_traits.specs.declared.files.FileCall.TheVariants.{Opening};
 ghost use Rattle.file_traits.specs.Lists.{bytes_of};
 ghost use Rattle.file_traits.specs.State.{IsOpen, content, without};
@@ -6,10 +6,10 @@ ghost use Rattle.unit_files.specs.declared.modes.AttachMode.TheVariants.{Any};
 ghost use Rattle.unit_files.specs.Attachments.{longest_file, is_disk};
 ghost use Rattle.unit_files.specs.Acts.{failure_at, measured, opening_said};
 ghost use Rattle.unit_files.specs.Acts.{files_unless_opening};
-ghost use Rattle.unit_files.specs.View.{IsEmptyCopy, IsNewCopy};
+ghost use Rattle.unit_files.specs.View.{IsEmptyCopy, IsNewCopy, IsNoCopy};
 ghost use Rattle.unit_files.specs.Answers.{said_of_attach, failure_of_attach, first_refusal, IfNoMemory};
 ghost use Rattle.unit_files.specs.Causes.{AttachCause, OnlyNewCounts};
-ghost use Rattle.unit_files.specs.Opening.{OpensFor, IsNewlyOpen, length_of, fault_of_opening, MeasureCause};
+ghost use Rattle.unit_files.specs.Opening.{OpensFor, CountsOpenings, CountsOneOrTwo, IsNewlyOpen, length_of, fault_of_opening, MeasureCause};
 ghost use Rattle.unit_files.specs.Opening.{ClosedCause};
 ghost use Rattle.unit_files.specs.Opening.{OnlyCountOf, HasLength, LengthCause, failed_at};
 ghost use Rattle.unit_files.specs.declared.faults.AttachFault.TheVariants as attach_faults;
@@ -33,7 +33,9 @@ pub(crate) struct Taken {
 
 /// Room for what a unit of that kind holds of its file: a copy of the disk, and none for the others.
 pub(crate) fn room_for(alloc: Global, kind: Kind) -> Result<DiskCopy, AllocError>
-    ensures { IfOk result (λ d. IsTrue (is_disk kind) → IsEmptyCopy d) }
+    ensures copy { IfOk result (λ d. IsTrue (is_disk kind) → IsEmptyCopy d) }
+    ensures others { is_disk kind ≡ false → IsOk result }
+    ensures none { IfOk result (λ d. is_disk kind ≡ false → IsNoCopy d) }
 {
     if is_disk(kind) {
         DiskCopy::with_pages(alloc)
@@ -49,7 +51,8 @@ fn open_for<F: Files>(
     mode: AttachMode,
     files: &mut F,
 ) -> Result<FileId, OpenFault>
-    ensures { OpensFor F.tells (F.state files.old) (F.state files.new) name.now mode result }
+    ensures opens { OpensFor F.tells (F.state files.old) (F.state files.new) name.now mode result }
+    ensures counts { CountsOpenings F.tells mode (F.state files.old).open_faults (F.state files.new).open_faults result }
 {
     match mode {
         AttachMode::Any => open_or_make(alloc, name, files),
@@ -61,7 +64,8 @@ fn open_for<F: Files>(
 
 // Opens a file, or makes it where it is not there.
 fn open_or_make<F: Files>(alloc: Global, name: &str, files: &mut F) -> Result<FileId, OpenFault>
-    ensures { OpensFor F.tells (F.state files.old) (F.state files.new) name.now Any result }
+    ensures opens { OpensFor F.tells (F.state files.old) (F.state files.new) name.now Any result }
+    ensures counts { CountsOneOrTwo F.tells (F.state files.old).open_faults (F.state files.new).open_faults result }
 {
     match files.open_file(alloc, name, OpenMode::Update) {
         Ok(file) => Ok(file),

@@ -1,4 +1,4 @@
-ghost use Rattle.std.specs.Prelude.{◌≡◌, ◌≤◌, ◌<◌, IsTrue, IfOk, OnOk, OnErr, length, vec_capacity};
+ghost use Rattle.std.specs.Prelude.{◌≡◌, ◌≤◌, ◌<◌, IsTrue, IfOk, OnOk, OnErr, length, take, vec_capacity};
 ghost use Rattle.file_traits.specs.FileCalls.{Counted, Reads};
 ghost use Rattle.file_traits.specs.State.{IsOpen, content};
 ghost use Rattle.unit_files.specs.Buffer.{disk_bytes};
@@ -51,8 +51,16 @@ fn read_bytes<F: Files>(
 {
     bytes.resize(count, 0).unwrap();
     let done = fill_pages(file, bytes.as_mut_slice(), files)?;
-    bytes.truncate(done);
+    keep_first(bytes, done);
     Ok(())
+}
+
+// Keeps so many first bytes of a list: those that were read, where a file was shorter than its length said.
+fn keep_first(bytes: &mut Vec<u8>, done: usize)
+    ensures bytes { bytes.new.items ≡ take done bytes.old.items }
+    ensures kept { vec_capacity bytes.new ≡ vec_capacity bytes.old }
+{
+    bytes.truncate(done);
 }
 
 // Fills a buffer from the front of an open file, no read going past the end of a page, and answers how many bytes it

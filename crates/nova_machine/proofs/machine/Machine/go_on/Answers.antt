@@ -111,7 +111,7 @@ bursts-preserved g c =
       few = omega (arith, few, within);
       time = omega (arith, begun, grown, still);
       steps = λ count start first before.
-          some_services (most - (done + more)) watch watch worked new
+          some_services (most - (done + more)) watch watch worked new (omega (arith, some))
           (along-on keys watch most (done + more) end old worked other
           (along-then keys watch most done more end old at worked c.bursts.invariant.steps (burst-along keys watch (most - done) more end at worked within c.burst-burst.ensures.told)) count start first before)
           c.look_on_line-period.ensures.steps;
@@ -141,8 +141,9 @@ returns-then-is_none-clause-steps g c =
     let most = c.args.most in
     let goes : c.is_last.result ≡ false = search rules in
     let other = (c.is_last.ensures goes).1 in
+    let some : done + more < most = search rules in
     on-along keys watch most (done + more) end old new other (λ count start first before.
-    some_services (most - (done + more)) watch watch worked new
+    some_services (most - (done + more)) watch watch worked new (omega (arith, some))
     (along-on keys watch most (done + more) end old worked other
     (along-then keys watch most done more end old at worked c.bursts.invariant.steps
     (burst-along keys watch (most - done) more end at worked c.burst-burst.ensures.few c.burst-burst.ensures.told)) count start first before)
