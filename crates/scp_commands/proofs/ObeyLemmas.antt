@@ -20,13 +20,13 @@ use Rattle.file_traits.specs.Lists.{NamedBytes}
 use Rattle.host_lines.specs.State.{LineState}
 use Rattle.telnet_lines.specs.Line.{LineOf}
 use Rattle.nova_machine.specs.Comes.{AreTold}
-use Rattle.nova_machine.specs.LineChanges.{AreLinesTold}
+use Rattle.nova_machine.specs.LineChanges.{AreLinesTold, HaveNoPort}
 use Rattle.command_session.proofs.ListenLemmas.{IsNoListener}
 use Rattle.run_control.specs.RunEffect.{run_effect, IsRun}
 use Rattle.host_commands.specs.HostEffect.{host_effect, IsHosted, IsHostAnswer, HostWorks, HostLines}
 use Rattle.state_commands.specs.StateAnswers.{PutsSessionBack}
 use Rattle.scp_commands.specs.Works.{Works}
-use Rattle.scp_commands.specs.LineAnswers.{LinesAnswer}
+use Rattle.scp_commands.specs.LineAnswers.{RunLines, LinesAnswer}
 use Rattle.scp_commands.specs.Effect.{effect, IsStateless}
 use Rattle.command_session.specs.Nature.{IsUntold}
 use Rattle.command_session.specs.Refusals.{IsMeasured}
@@ -217,13 +217,16 @@ run-no-listener (AttachPort kind port) runs = absurd runs
 run-no-listener (Restore force name) runs = absurd runs
 run-no-listener r runs = tt
 
+idle-line : (old : LineState) (before : List (LineOf ℕ)) (new : LineState) (after : List (LineOf ℕ)) → (HaveNoPort before → (new ≡ old) × (after ≡ before)) → RunLines old before new after
+idle-line old before new after idle none = let same = idle none in record { lines = same.1; outside = same.0 }
+
 pub run-line : (tells : Bool) (r : Request) (answer : Answer) (old : LineState) (before : List (LineOf ℕ)) (new : LineState) (after : List (LineOf ℕ)) → IsRun r
-    → LinesAnswer tells r answer old before new after
-run-line tells (Run address) answer old before new after runs = tt
-run-line tells (GoRequest address) answer old before new after runs = tt
-run-line tells Cont answer old before new after runs = tt
-run-line tells (Step count) answer old before new after runs = tt
-run-line tells r answer old before new after runs = absurd runs
+    → (HaveNoPort before → (new ≡ old) × (after ≡ before)) → LinesAnswer tells r answer old before new after
+run-line tells (Run address) answer old before new after runs idle = idle-line old before new after idle
+run-line tells (GoRequest address) answer old before new after runs idle = idle-line old before new after idle
+run-line tells Cont answer old before new after runs idle = idle-line old before new after idle
+run-line tells (Step count) answer old before new after runs idle = idle-line old before new after idle
+run-line tells r answer old before new after runs idle = absurd runs
 
 pub run-measured : (tells : Bool) (r : Request) (answer : Answer) (old new : FileState) → IsRun r → IsMeasured tells r answer old new
 run-measured tells (Do echo strict name arguments) answer old new runs = absurd runs
@@ -250,10 +253,10 @@ run-note r answer stamp notes notes' old new runs = tt
 pub host-line : (tells : Bool) (r : Request) (answer : Answer) (old : LineState) (before : List (LineOf ℕ)) (new : LineState) (after : List (LineOf ℕ)) → IsHosted r
     → HostLines tells r answer old before new after → LinesAnswer tells r answer old before new after
 host-line tells (Restore force name) answer old before new after hosted says = absurd hosted
-host-line tells (Run address) answer old before new after hosted says = tt
-host-line tells (GoRequest address) answer old before new after hosted says = tt
-host-line tells Cont answer old before new after hosted says = tt
-host-line tells (Step count) answer old before new after hosted says = tt
+host-line tells (Run address) answer old before new after hosted says = absurd hosted
+host-line tells (GoRequest address) answer old before new after hosted says = absurd hosted
+host-line tells Cont answer old before new after hosted says = absurd hosted
+host-line tells (Step count) answer old before new after hosted says = absurd hosted
 host-line tells r answer old before new after hosted says = says
 
 pub host-works : (r : Request) (answer : Answer) (s t : CommandState) (old new : FileState) → IsHosted r → HostWorks r answer s t old new → Works r answer s t old new

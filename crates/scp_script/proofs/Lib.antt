@@ -11,3 +11,4 @@ pub mod LineLemmas
 pub mod NoteLemmas
 pub mod WholeLemmas
 pub mod ActionLemmas
+pub mod UsedLemmas

@@ -71,7 +71,7 @@ later-follow before number live now own more less m = record {
 }
 
 -- none may follow
-none-follow : (number : ℕ) (live : Live) (more : List Note) → more ≡ [] → MayFollow number live more
+pub none-follow : (number : ℕ) (live : Live) (more : List Note) → more ≡ [] → MayFollow number live more
 none-follow number live more none = record { behind = []; later = []; are = none; closings = tt; follows = tt }
 
 may-follow : (p : Progress) (number : ℕ) (live : Live) (more : List Note) → MayCome p number live more → MayFollow number live more

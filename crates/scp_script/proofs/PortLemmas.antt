@@ -1,5 +1,5 @@
 -- What texts leave of the ports and the connections of the outside.
-use Rattle.std.proofs.Common.{◌≡◌, ap, sym, subst, ℕ, Bool, IsTrue, List, Err}
+use Rattle.std.proofs.Common.{◌≡◌, ap, sym, subst, ℕ, Bool, List, Option, Err}
 use Rattle.file_traits.specs.Lists.{NamedBytes}
 use Rattle.host_lines.specs.Traffic.{Answer as LineAnswer}
 use Rattle.host_lines.specs.Told.{ahead_of}
@@ -8,10 +8,12 @@ use Rattle.telnet_lines.specs.Line.{LineOf}
 use Rattle.scp_parser.specs.Command.{Request, AttachPort, Restore}
 use Rattle.command_session.specs.declared.fault.CommandFault.TheVariants.{OutOfMemory}
 use Rattle.command_session.specs.Live.{CommandState, beyond, live_in}
+use Rattle.command_session.specs.Nature.{nature}
 use Rattle.command_session.specs.Reply.{Answer}
 use Rattle.command_session.specs.Doing.{IsRefused}
 use Rattle.command_session.specs.LinesLeft.{LinesLeft, IsUnlistened, ListenCause}
 use Rattle.command_session.proofs.PortLemmas.{left-same, seen-still}
+use Rattle.scp_script.specs.Used.{LinesTold}
 
 -- nothing was asked of the lines
 pub left-kept : (tells : Bool) (s : LineState) (before after : List (LineOf ℕ)) → after ≡ before → LinesLeft tells s before s after
@@ -28,11 +30,11 @@ pub record StillSeen (old new : LineState) : Type 0 where
   pub sent : new.sent ≡ old.sent
 
 -- so it is where memory ran out
-pub still-seen : (tells : Bool) (request : Request) (old new : LineState) → IsTrue tells → IsUnasked request (Err OutOfMemory) old new → ListenCause tells request (Err OutOfMemory) old new
-    → StillSeen old new
-still-seen tells (AttachPort kind port) old new telling unasked (cause, told) = record { told = told telling; behind = cause.behind; sent = cause.sent }
-still-seen tells (Restore force name) old new telling unasked (cause, told) = record { told = told telling; behind = cause.behind; sent = cause.sent }
-still-seen tells request old new telling unasked cause =
+pub still-seen : (tells : Bool) (request : Request) (ports : List (Option ℕ)) (old new : LineState) → LinesTold (nature request).telling tells ports → IsUnasked request (Err OutOfMemory) old new
+    → ListenCause tells request (Err OutOfMemory) old new → StillSeen old new
+still-seen tells (AttachPort kind port) ports old new telling unasked (cause, told) = record { told = told telling; behind = cause.behind; sent = cause.sent }
+still-seen tells (Restore force name) ports old new telling unasked (cause, told) = record { told = told telling; behind = cause.behind; sent = cause.sent }
+still-seen tells request ports old new telling unasked cause =
     let same = unasked tt (λ none. none) in
     record { told = ap (λ (s : LineState). s.told) same; behind = ap parties same; sent = ap (λ (s : LineState). s.sent) same }
 

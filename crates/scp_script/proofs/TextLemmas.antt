@@ -348,30 +348,6 @@ exit-followed texts what reply status texts' at tells before after (is, said) =
 
 -- ---- what comes of a text
 
--- what is told where files and lines are told, is told of every command
-pub told-of : (tells : Bool) (slots : List (Option Held)) (line_tells : Bool) (ports : LineState) (lines : List (LineOf ℕ)) (r : Request) → IsTrue tells → IsTrue line_tells → AreApart ports lines
-    → IsTold tells slots line_tells ports lines r
-told-of tells slots line_tells ports lines (Attach option unit name) told telling apart = told
-told-of tells slots line_tells ports lines (request.AttachPort kind port) told telling apart = (telling, apart)
-told-of tells slots line_tells ports lines (request.Do echo strict name arguments) told telling apart = told
-told-of tells slots line_tells ports lines (request.Load name) told telling apart = told
-told-of tells slots line_tells ports lines (request.Dump from to name) told telling apart = told
-told-of tells slots line_tells ports lines (request.Save name) told telling apart = told
-told-of tells slots line_tells ports lines (request.Restore force name) told telling apart = (told, telling, apart)
-told-of tells slots line_tells ports lines (request.Run address) told telling apart = (inl told, inl (telling, apart))
-told-of tells slots line_tells ports lines (request.Go address) told telling apart = (inl told, inl (telling, apart))
-told-of tells slots line_tells ports lines request.Cont told telling apart = (inl told, inl (telling, apart))
-told-of tells slots line_tells ports lines (request.Step count) told telling apart = (inl told, inl (telling, apart))
-told-of tells slots line_tells ports lines (request.Detach None) told telling apart = inl (telling, apart)
-told-of tells slots line_tells ports lines (request.Detach (Some unit)) told telling apart = by (is_terminal unit)
-  where
-    by : (b : Bool) → told_by (if b then Ported else Nothing) tells slots line_tells ports lines
-    by true = inl (telling, apart)
-    by false = tt
-told-of tells slots line_tells ports lines (request.Disconnect kind) told telling apart = inl (telling, apart)
-told-of tells slots line_tells ports lines (request.Exit status) told telling apart = inl (telling, apart)
-told-of tells slots line_tells ports lines r told telling apart = tt
-
 -- a command was done, and then its answer was followed
 pub answers-of : (limit : ℕ) (old : Live) (texts : Texts) (r : Request) (number : ℕ) (answer : Answer) (result : Progress) (new : Live) (texts' : Texts) (tells : Bool) (before mid after : Output) (notes notes' : List Note)
     → checked texts.scripts (Ok r) ≡ Ok r → Did (λ own. effect limit own old r) number answer new tells before mid notes notes'

@@ -1,6 +1,7 @@
 -- What stands behind a command for which memory ran out.
 use Rattle.std.proofs.Common.{◌≡◌, ℕ, Bool, IsTrue, List, [], ◌∷◌, ◌++◌, Option, Some, None, refl, ap, sym, ◌∙◌, subst, append-nil}
 use Rattle.std.specs.List.{AllByRecursion}
+use Rattle.unit_files.specs.Attachments.{Held}
 use Rattle.file_commands.specs.declared.note.Subject.{Subject}
 use Rattle.file_commands.specs.declared.note.FaultNote.{FaultNote}
 use Rattle.file_commands.specs.Notes.{Note, notes_said}
@@ -18,14 +19,16 @@ use Rattle.scp_script.specs.declared.progress.Progress.{Progress}
 use Rattle.scp_script.specs.declared.progress.Progress.TheVariants.{GoesOn, IsOver}
 use Rattle.scp_script.specs.declared.progress.Finish.TheVariants.{Exit, EndOfInput, FlushFailed, Commands, Console, Input, OutOfMemory}
 use Rattle.scp_script.specs.Loop.{AreClosings, IsShort, Complains, Denies}
+use Rattle.command_session.specs.Nature.{nature}
+use Rattle.scp_script.specs.Used.{FilesTold}
 use Rattle.scp_script.proofs.TextLemmas.{same-output}
 
--- where files are told, it is said of every command that they are as they were
-pub says : (tells : Bool) (request : Request) → IsTrue tells → IsTrue (says_files tells request)
-says tells (Do echo strict name arguments) told = told
-says tells (Load name) told = told
-says tells (Restore force name) told = told
-says tells request told = refl
+-- where the files that a command uses are told, it is said that all are as they were
+pub says : (tells : Bool) (request : Request) (slots : List (Option Held)) → FilesTold (nature request).telling tells slots → IsTrue (says_files tells request)
+says tells (Do echo strict name arguments) slots told = told
+says tells (Load name) slots told = told
+says tells (Restore force name) slots told = told
+says tells request slots told = refl
 
 same-behind : (before more own : List Note) → before ++ more ≡ before ++ own → more ≡ own
 same-behind [] more own same = same

@@ -4,4 +4,5 @@ pub mod Scripts
 pub mod Actions
 pub mod Session
 pub mod Loop
+pub mod Used
 pub mod Perform

@@ -22,6 +22,7 @@ ghost use Rattle.scp_script.specs.Actions.{text_of_stop, put_first, overflow_tex
 ghost use Rattle.scp_script.specs.Session.{text_reply};
 ghost use Rattle.scp_script.specs.Loop.{IsAnswer, Answers, AnswerCounts, HasExitStatus, AreKept, IsShort};
 ghost use Rattle.scp_script.specs.Loop.{coming, Complains, Denies, Follows, FitsIn};
+ghost use Rattle.scp_script.specs.Used.{TextTold};
 
 use crate::open_script::OpenScript;
 use crate::progress::{Finish, Progress};
@@ -49,14 +50,18 @@ pub fn answer<U: Unit, F: Files, L: Lines, S: Sink>(
 ) -> Progress
     requires standard { AreStandard session.old.machine.units }
     requires open { AllOpen session.old.machine.slots (F.state files.old).opened }
-    ensures told { IsTrue F.tells → IsTrue L.tells → AreApart (L.state lines.old) session.old.machine.lines
+    ensures told { TextTold F.tells L.tells session.old.machine texts.old.scripts (asked line.now)
+        → (IsTrue L.tells → AreApart (L.state lines.old) session.old.machine.lines)
         → (whole : List LineAnswer) → IsFirst (record_in (L.state lines.new).told) whole
         → Answers session.old.limit (live_in session.old (beyond (F.state files.old).files (L.state lines.old) whole))
         (coming texts.old) (asked line.now) session.old.command result
         (live_in session.new (beyond (F.state files.new).files (L.state lines.new) whole)) (coming texts.new) S.tells
         (output (S.written out.old) (L.state lines.old).sent) (output (S.written out.new) (L.state lines.new).sent)
         (notes_said session.old.notes) (notes_said session.new.notes) }
-    ensures short { IsTrue F.tells → IsTrue L.tells → (whole : List LineAnswer) (own : List Note)
+    ensures still { TextTold F.tells L.tells session.old.machine texts.old.scripts (asked line.now)
+        → (IsTrue L.tells → ⊥) → L.state lines.new ≡ L.state lines.old }
+    ensures short { TextTold F.tells L.tells session.old.machine texts.old.scripts (asked line.now)
+        → (whole : List LineAnswer) (own : List Note)
         → notes_said session.new.notes ≡ notes_said session.old.notes ++ own
         → IsShort (asked line.now) session.old.command result
         (live_in session.old (beyond (F.state files.old).files (L.state lines.old) whole))
@@ -97,14 +102,18 @@ fn obey<U: Unit, F: Files, L: Lines, S: Sink>(
 ) -> Progress
     requires standard { AreStandard session.old.machine.units }
     requires open { AllOpen session.old.machine.slots (F.state files.old).opened }
-    ensures told { IsTrue F.tells → IsTrue L.tells → AreApart (L.state lines.old) session.old.machine.lines
+    ensures told { TextTold F.tells L.tells session.old.machine texts.old.scripts (Ok command.now)
+        → (IsTrue L.tells → AreApart (L.state lines.old) session.old.machine.lines)
         → (whole : List LineAnswer) → IsFirst (record_in (L.state lines.new).told) whole
         → Answers session.old.limit (live_in session.old (beyond (F.state files.old).files (L.state lines.old) whole))
         (coming texts.old) (Ok command.now) session.old.command result
         (live_in session.new (beyond (F.state files.new).files (L.state lines.new) whole)) (coming texts.new) S.tells
         (output (S.written out.old) (L.state lines.old).sent) (output (S.written out.new) (L.state lines.new).sent)
         (notes_said session.old.notes) (notes_said session.new.notes) }
-    ensures short { IsTrue F.tells → IsTrue L.tells → (whole : List LineAnswer) (own : List Note)
+    ensures still { TextTold F.tells L.tells session.old.machine texts.old.scripts (Ok command.now)
+        → (IsTrue L.tells → ⊥) → L.state lines.new ≡ L.state lines.old }
+    ensures short { TextTold F.tells L.tells session.old.machine texts.old.scripts (Ok command.now)
+        → (whole : List LineAnswer) (own : List Note)
         → notes_said session.new.notes ≡ notes_said session.old.notes ++ own
         → IsShort (Ok command.now) session.old.command result
         (live_in session.old (beyond (F.state files.old).files (L.state lines.old) whole))

@@ -17,6 +17,7 @@ ghost use Rattle.scp_script.specs.Scripts.{cost_of_line};
 ghost use Rattle.scp_script.specs.Session.{prompt_text, spent_more};
 ghost use Rattle.scp_script.specs.Loop.{session_of, NumbersSuffice, Stepped, ProgressCause, PaysFor};
 ghost use Rattle.scp_script.specs.Loop.{AreKept, KeptInLine};
+ghost use Rattle.scp_script.specs.Used.{NextTold};
 
 use crate::answers::{answer, deny_line};
 use crate::line_reader::Reading;
@@ -46,14 +47,20 @@ pub fn next_line<U: Unit, C: Source, F: Files, L: Lines, S: Sink>(
     requires standard { AreStandard session.old.machine.units }
     requires open { AllOpen session.old.machine.slots (F.state files.old).opened }
     ensures told { NumbersSuffice session.old.command lines.old.budget → (lines.old.reads ≡ true → IsTrue C.tells)
-        → IsTrue F.tells → IsTrue L.tells → AreApart (L.state ports.old) session.old.machine.lines → IsTrue S.tells
-        → (whole : List LineAnswer) → IsFirst (record_in (L.state ports.new).told) whole → Stepped
+        → (IsTrue L.tells → AreApart (L.state ports.old) session.old.machine.lines) → IsTrue S.tells
+        → (whole : List LineAnswer) → IsFirst (record_in (L.state ports.new).told) whole
+        → NextTold F.tells L.tells (session_of session.old
+        (beyond (F.state files.old).files (L.state ports.old) whole) lines.old (C.left input.old) []) → Stepped
         (session_of session.old (beyond (F.state files.old).files (L.state ports.old) whole) lines.old
         (C.left input.old)) result
         (session_of session.new (beyond (F.state files.new).files (L.state ports.new) whole) lines.new
         (C.left input.new)) (output (S.written out.old) (L.state ports.old).sent)
         (output (S.written out.new) (L.state ports.new).sent) (notes_said session.old.notes)
         (notes_said session.new.notes) }
+    ensures still { (lines.old.reads ≡ true → IsTrue C.tells) → (IsTrue L.tells → ⊥) → (whole : List LineAnswer)
+        → NextTold F.tells L.tells (session_of session.old
+        (beyond (F.state files.old).files (L.state ports.old) whole) lines.old (C.left input.old) [])
+        → L.state ports.new ≡ L.state ports.old }
     ensures ports { LinesLeft L.tells (L.state ports.old) session.old.machine.lines (L.state ports.new)
         session.new.machine.lines }
     ensures cause { ProgressCause result (S.fault_count out.old) (S.fault_count out.new) (C.fault_count input.old)
@@ -100,13 +107,19 @@ fn action<U: Unit, F: Files, L: Lines, S: Sink>(
     requires some { lines.old.texts.actions ≢ [] }
     requires standard { AreStandard session.old.machine.units }
     requires open { AllOpen session.old.machine.slots (F.state files.old).opened }
-    ensures told { NumbersSuffice session.old.command lines.old.budget → IsTrue F.tells
-        → IsTrue L.tells → AreApart (L.state ports.old) session.old.machine.lines → IsTrue S.tells
-        → (whole : List LineAnswer) → IsFirst (record_in (L.state ports.new).told) whole → (input : List ℕ) → Stepped
+    ensures told { NumbersSuffice session.old.command lines.old.budget
+        → (IsTrue L.tells → AreApart (L.state ports.old) session.old.machine.lines) → IsTrue S.tells
+        → (whole : List LineAnswer) → IsFirst (record_in (L.state ports.new).told) whole → (input : List ℕ)
+        → NextTold F.tells L.tells (session_of session.old
+        (beyond (F.state files.old).files (L.state ports.old) whole) lines.old input []) → Stepped
         (session_of session.old (beyond (F.state files.old).files (L.state ports.old) whole) lines.old input) result
         (session_of session.new (beyond (F.state files.new).files (L.state ports.new) whole) lines.new input)
         (output (S.written out.old) (L.state ports.old).sent) (output (S.written out.new) (L.state ports.new).sent)
         (notes_said session.old.notes) (notes_said session.new.notes) }
+    ensures still { (IsTrue L.tells → ⊥) → (whole : List LineAnswer) (input : List ℕ)
+        → NextTold F.tells L.tells (session_of session.old
+        (beyond (F.state files.old).files (L.state ports.old) whole) lines.old input [])
+        → L.state ports.new ≡ L.state ports.old }
     ensures ports { LinesLeft L.tells (L.state ports.old) session.old.machine.lines (L.state ports.new)
         session.new.machine.lines }
     ensures cause { (source : ℕ) → ProgressCause result (S.fault_count out.old) (S.fault_count out.new) source source }
@@ -162,15 +175,21 @@ fn input_line<U: Unit, C: Source, F: Files, L: Lines, S: Sink>(
     requires room { 16 ≤ session.old.spare }
     requires standard { AreStandard session.old.machine.units }
     requires open { AllOpen session.old.machine.slots (F.state files.old).opened }
-    ensures told { NumbersSuffice session.old.command lines.old.budget → IsTrue C.tells → IsTrue F.tells
-        → IsTrue L.tells → AreApart (L.state ports.old) session.old.machine.lines → IsTrue S.tells
-        → (whole : List LineAnswer) → IsFirst (record_in (L.state ports.new).told) whole → Stepped
+    ensures told { NumbersSuffice session.old.command lines.old.budget → IsTrue C.tells
+        → (IsTrue L.tells → AreApart (L.state ports.old) session.old.machine.lines) → IsTrue S.tells
+        → (whole : List LineAnswer) → IsFirst (record_in (L.state ports.new).told) whole
+        → NextTold F.tells L.tells (session_of session.old
+        (beyond (F.state files.old).files (L.state ports.old) whole) lines.old (C.left input.old) []) → Stepped
         (session_of session.old (beyond (F.state files.old).files (L.state ports.old) whole) lines.old
         (C.left input.old)) result
         (session_of session.new (beyond (F.state files.new).files (L.state ports.new) whole) lines.new
         (C.left input.new)) (output (S.written out.old) (L.state ports.old).sent)
         (output (S.written out.new) (L.state ports.new).sent) (notes_said session.old.notes)
         (notes_said session.new.notes) }
+    ensures still { IsTrue C.tells → (IsTrue L.tells → ⊥) → (whole : List LineAnswer)
+        → NextTold F.tells L.tells (session_of session.old
+        (beyond (F.state files.old).files (L.state ports.old) whole) lines.old (C.left input.old) [])
+        → L.state ports.new ≡ L.state ports.old }
     ensures ports { LinesLeft L.tells (L.state ports.old) session.old.machine.lines (L.state ports.new)
         session.new.machine.lines }
     ensures cause { ProgressCause result (S.fault_count out.old) (S.fault_count out.new) (C.fault_count input.old)
@@ -233,16 +252,24 @@ fn script_line<U: Unit, F: Files, L: Lines, S: Sink>(
     requires scripts { length lines.old.texts.scripts < 10 }
     requires standard { AreStandard session.old.machine.units }
     requires open { AllOpen session.old.machine.slots (F.state files.old).opened }
-    ensures told { NumbersSuffice session.old.command lines.old.budget → IsTrue F.tells
-        → IsTrue L.tells → AreApart (L.state ports.old) session.old.machine.lines → IsTrue S.tells
-        → (whole : List LineAnswer) → IsFirst (record_in (L.state ports.new).told) whole
-        → (input : List ℕ) → Stepped
+    ensures told { NumbersSuffice session.old.command lines.old.budget
+        → (IsTrue L.tells → AreApart (L.state ports.old) session.old.machine.lines) → IsTrue S.tells
+        → (whole : List LineAnswer) → IsFirst (record_in (L.state ports.new).told) whole → (input : List ℕ)
+        → NextTold F.tells L.tells (session_of session.old
+        (beyond (F.state files.old).files (L.state ports.old) whole)
+        (record lines.old { texts = record lines.old.texts { scripts = script ∷ lines.old.texts.scripts } }) input [])
+        → Stepped
         (session_of session.old (beyond (F.state files.old).files (L.state ports.old) whole)
         (record lines.old { texts = record lines.old.texts { scripts = script ∷ lines.old.texts.scripts } }) input)
         result
         (session_of session.new (beyond (F.state files.new).files (L.state ports.new) whole) lines.new input)
         (output (S.written out.old) (L.state ports.old).sent) (output (S.written out.new) (L.state ports.new).sent)
         (notes_said session.old.notes) (notes_said session.new.notes) }
+    ensures still { (IsTrue L.tells → ⊥) → (whole : List LineAnswer) (input : List ℕ)
+        → NextTold F.tells L.tells (session_of session.old
+        (beyond (F.state files.old).files (L.state ports.old) whole)
+        (record lines.old { texts = record lines.old.texts { scripts = script ∷ lines.old.texts.scripts } }) input [])
+        → L.state ports.new ≡ L.state ports.old }
     ensures ports { LinesLeft L.tells (L.state ports.old) session.old.machine.lines (L.state ports.new)
         session.new.machine.lines }
     ensures cause { (source : ℕ) → ProgressCause result (S.fault_count out.old) (S.fault_count out.new) source source }

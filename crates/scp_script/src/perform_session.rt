@@ -14,6 +14,7 @@ ghost use Rattle.command_session.specs.LinesLeft.{LinesLeft};
 ghost use Rattle.scp_script.specs.Loop.{NumbersSuffice, FinishCause, AreKept, KeptCause};
 ghost use Rattle.scp_script.specs.Scripts.{first_script};
 ghost use Rattle.scp_script.specs.Perform.{beginning, SpendsOf, Performed};
+ghost use Rattle.scp_script.specs.Used.{CourseTold};
 
 use crate::command_loop::next_line;
 use crate::line_reader::LineReader;
@@ -68,7 +69,9 @@ pub fn perform<U: Unit, C: Source, F: Files, L: Lines, S: Sink>(
     requires standard { AreStandard session.old.machine.units }
     requires open { AllOpen session.old.machine.slots (F.state files.old).opened }
     ensures told { NumbersSuffice session.old.command opening.now.budget → (opening.now.reads ≡ true → IsTrue C.tells)
-        → IsTrue F.tells → IsTrue L.tells → AreApart (L.state lines.old) session.old.machine.lines → IsTrue S.tells
+        → CourseTold F.tells L.tells (λ whole notes. beginning session.old
+        (beyond (F.state files.old).files (L.state lines.old) whole) opening.now (C.left input.old) notes)
+        → (IsTrue L.tells → AreApart (L.state lines.old) session.old.machine.lines) → IsTrue S.tells
         → (whole : List LineAnswer) → IsFirst (record_in (L.state lines.new).told) whole → Performed
         (λ notes. beginning session.old (beyond (F.state files.old).files (L.state lines.old) whole) opening.now
         (C.left input.old) notes) result

@@ -52,7 +52,7 @@ returns-in-Run-clause-listening g c =
     unlistening g.L.Lines.tells c.args.command.now c.obey_run.result (g.L.Lines.state c.args.lines.now) (g.L.Lines.state c.obey_run.new.lines) (run-no-listener c.args.command.now (c.family_of.ensures.run c.in-Run.is)) (run-no-port c.obey_run.result c.obey_run.ensures.done.own)
 
 pub returns-in-Run-clause-line : goal.returns-in-Run-clause-line
-returns-in-Run-clause-line g c = λ some. run-line g.L.Lines.tells c.args.command.now c.obey_run.result (g.L.Lines.state c.args.lines.now) c.args.session.now.machine.lines (g.L.Lines.state c.obey_run.new.lines) c.obey_run.new.session.machine.lines (c.family_of.ensures.run c.in-Run.is)
+returns-in-Run-clause-line g c = λ some. run-line g.L.Lines.tells c.args.command.now c.obey_run.result (g.L.Lines.state c.args.lines.now) c.args.session.now.machine.lines (g.L.Lines.state c.obey_run.new.lines) c.obey_run.new.session.machine.lines (c.family_of.ensures.run c.in-Run.is) c.obey_run.ensures.done.lines.idle
 
 pub returns-in-Run-clause-measured : goal.returns-in-Run-clause-measured
 returns-in-Run-clause-measured g c = run-measured g.F.Files.tells c.args.command.now c.obey_run.result (g.F.Files.state c.args.files.now) (g.F.Files.state c.obey_run.new.files) (c.family_of.ensures.run c.in-Run.is)

@@ -8,12 +8,13 @@ use Rattle.command_session.proofs.AskedLemmas.{asked-as}
 use Rattle.command_session.proofs.PortLemmas.{left-same}
 use Rattle.scp_script.specs.Scripts.{checked}
 use Rattle.scp_script.specs.Loop.{Answers, IsShort, coming}
+use Rattle.scp_script.specs.Used.{TextTold}
 use Rattle.scp_script.proofs.TextLemmas.{answers-none}
 use Rattle.scp_script.proofs.NoteLemmas.{never-short}
 use Rattle.scp_script.proofs.answers.answer.Goals as goal
 
 pub returns-in-Ok-clause-told : goal.returns-in-Ok-clause-told
-returns-in-Ok-clause-told g c = λ told telling apart whole first.
+returns-in-Ok-clause-told g c = λ used apart whole first.
     let session = c.args.session.now in
     let ports = g.L.Lines.state c.args.lines.now in
     let ports' = g.L.Lines.state c.obey.new.lines in
@@ -22,10 +23,10 @@ returns-in-Ok-clause-told g c = λ told telling apart whole first.
     let is = asked-as c.args.line.now (Ok c.read_command.new.into) c.in-Ok.ensures.exact in
     subst (λ (a : Asked). Answers session.limit live (coming c.args.texts.now) a session.command c.obey.result new (coming c.obey.new.texts) g.S.Sink.tells
     (output (g.S.Sink.written c.args.out.now) ports.sent) (output (g.S.Sink.written c.obey.new.out) ports'.sent) (notes_said session.notes) (notes_said c.obey.new.session.notes))
-    (sym is) (c.obey.ensures.told told telling apart whole first)
+    (sym is) (c.obey.ensures.told (subst (λ (a : Asked). TextTold g.F.Files.tells g.L.Lines.tells session.machine c.args.texts.now.scripts a) is used) apart whole first)
 
 pub returns-in-Err-clause-told : goal.returns-in-Err-clause-told
-returns-in-Err-clause-told g c = λ told telling apart whole first.
+returns-in-Err-clause-told g c = λ used apart whole first.
     let session = c.args.session.now in
     let texts = coming c.args.texts.now in
     let ports = g.L.Lines.state c.args.lines.now in
@@ -36,7 +37,7 @@ returns-in-Err-clause-told g c = λ told telling apart whole first.
     (λ behind. c.deny_line.ensures.told around ports.sent behind (asked c.args.line.now) (ap (checked texts.scripts) is))
 
 pub returns-in-Ok-clause-short : goal.returns-in-Ok-clause-short
-returns-in-Ok-clause-short g c = λ told telling whole own noted.
+returns-in-Ok-clause-short g c = λ used whole own noted.
     let session = c.args.session.now in
     let ports = g.L.Lines.state c.args.lines.now in
     let ports' = g.L.Lines.state c.obey.new.lines in
@@ -44,10 +45,10 @@ returns-in-Ok-clause-short g c = λ told telling whole own noted.
     subst (λ (a : Asked). IsShort a session.command c.obey.result (live_in session (beyond (g.F.Files.state c.args.files.now).files ports whole))
     (live_in c.obey.new.session (beyond (g.F.Files.state c.obey.new.files).files ports' whole)) own (output (g.S.Sink.written c.args.out.now) ports.sent)
     (output (g.S.Sink.written c.obey.new.out) ports'.sent))
-    (sym is) (c.obey.ensures.short told telling whole own noted)
+    (sym is) (c.obey.ensures.short (subst (λ (a : Asked). TextTold g.F.Files.tells g.L.Lines.tells session.machine c.args.texts.now.scripts a) is used) whole own noted)
 
 pub returns-in-Err-clause-short : goal.returns-in-Err-clause-short
-returns-in-Err-clause-short g c = λ told telling whole own is.
+returns-in-Err-clause-short g c = λ used whole own is.
     let session = c.args.session.now in
     let ports = g.L.Lines.state c.args.lines.now in
     let live = live_in session (beyond (g.F.Files.state c.args.files.now).files ports whole) in
@@ -56,3 +57,8 @@ returns-in-Err-clause-short g c = λ told telling whole own is.
 
 pub returns-in-Err-clause-lines : goal.returns-in-Err-clause-lines
 returns-in-Err-clause-lines g c = left-same g.L.Lines.tells (g.L.Lines.state c.args.lines.now) c.args.session.now.machine.lines
+
+pub returns-in-Ok-clause-still : goal.returns-in-Ok-clause-still
+returns-in-Ok-clause-still g c = λ used untold.
+    let is = asked-as c.args.line.now (Ok c.read_command.new.into) c.in-Ok.ensures.exact in
+    c.obey.ensures.still (subst (λ (a : Asked). TextTold g.F.Files.tells g.L.Lines.tells c.args.session.now.machine c.args.texts.now.scripts a) is used) untold

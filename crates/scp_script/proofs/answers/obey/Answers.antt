@@ -1,6 +1,7 @@
 use Rattle.std.proofs.Common.{◌≡◌, Ok, Err, refl, ap, sym, subst}
 use Rattle.file_commands.specs.Notes.{notes_said}
 use Rattle.nova_machine.specs.Comes.{output}
+use Rattle.nova_machine.specs.LineChanges.{ports_of}
 use Rattle.command_session.specs.Live.{Live, CommandState, live_in, beyond, standing}
 use Rattle.scp_commands.specs.Effect.{effect}
 use Rattle.command_session.specs.Nature.{nature}
@@ -13,7 +14,8 @@ use Rattle.command_session.proofs.PortLemmas.{left-same}
 use Rattle.scp_script.specs.declared.progress.Progress.TheVariants.{IsOver}
 use Rattle.scp_script.specs.declared.progress.Finish.TheVariants.{OutOfMemory}
 use Rattle.scp_script.specs.Loop.{coming}
-use Rattle.scp_script.proofs.TextLemmas.{told-of, answers-of, answers-none, denied}
+use Rattle.scp_script.proofs.TextLemmas.{answers-of, answers-none, denied}
+use Rattle.scp_script.proofs.UsedLemmas.{as-command, command-told, still-lines}
 use Rattle.scp_script.proofs.UndoneLemmas.{says, short-notes, refused-short}
 use Rattle.scp_script.proofs.PortLemmas.{IsUnasked, still-seen, live-still}
 use Rattle.scp_script.proofs.NoteLemmas.{never-short}
@@ -21,7 +23,7 @@ use Rattle.scp_script.proofs.RoomLemmas.{room-next}
 use Rattle.scp_script.proofs.answers.obey.Goals as goal
 
 pub returns-then-is_too_deep-clause-told : goal.returns-then-is_too_deep-clause-told
-returns-then-is_too_deep-clause-told g c = λ told telling apart whole first.
+returns-then-is_too_deep-clause-told g c = λ used apart whole first.
     let session = c.args.session.now in
     let ports = g.L.Lines.state c.args.lines.now in
     let around = beyond (g.F.Files.state c.args.files.now).files ports whole in
@@ -30,7 +32,7 @@ returns-then-is_too_deep-clause-told g c = λ told telling apart whole first.
     (λ behind. c.deny_line.ensures.told around ports.sent behind (Ok c.args.command.now) (c.is_too_deep.ensures.deep c.if-is_too_deep.true))
 
 pub returns-in_default-clause-told : goal.returns-in_default-clause-told
-returns-in_default-clause-told g c = λ told telling apart whole first.
+returns-in_default-clause-told g c = λ used apart whole first.
     let session = c.args.session.now in
     let ports = g.L.Lines.state c.args.lines.now in
     let before = output (g.S.Sink.written c.args.out.now) ports.sent in
@@ -38,7 +40,7 @@ returns-in_default-clause-told g c = λ told telling apart whole first.
     (coming c.args.texts.now) g.S.Sink.tells before before (notes_said session.notes) (λ behind. tt)
 
 pub returns-clause-told : goal.returns-clause-told
-returns-clause-told g c = λ told telling apart whole first.
+returns-clause-told g c = λ used apart whole first.
     let session = c.args.session.now in
     let ports = g.L.Lines.state c.args.lines.now in
     let ports' = g.L.Lines.state c.execute.new.lines in
@@ -50,12 +52,12 @@ returns-clause-told g c = λ told telling apart whole first.
     let mid = output (g.S.Sink.written c.execute.new.out) ports'.sent in
     answers-of session.limit live texts c.args.command.now session.command (Ok c.in-Ok-execute.next) c.follow.result new (coming c.follow.new.texts)
     tells before mid (output (g.S.Sink.written c.follow.new.out) ports'.sent) (notes_said session.notes) (notes_said c.execute.new.session.notes) (c.is_too_deep.ensures.fits c.if-is_too_deep.false)
-    (c.in-Ok-execute.ensures.told (told-of g.F.Files.tells session.machine.slots g.L.Lines.tells ports session.machine.lines c.args.command.now told telling apart) whole first)
+    (c.in-Ok-execute.ensures.told (command-told g.F.Files.tells g.L.Lines.tells session.machine ports c.args.texts.now.scripts c.args.command.now (c.is_too_deep.ensures.fits c.if-is_too_deep.false) used apart) whole first)
     (λ own used does. c.follow.ensures.told ports'.sent (effect session.limit own live c.args.command.now) (standing used new) before (sym (ap (λ (x : CommandState). x.watch) c.session.view_is))
     (room-next texts.scripts session.limit own live c.args.command.now c.in-Ok-execute.next _ tells before mid (c.is_too_deep.ensures.room c.if-is_too_deep.false) does) does)
 
 pub returns-in-Err-clause-told : goal.returns-in-Err-clause-told
-returns-in-Err-clause-told g c = λ told telling apart whole first.
+returns-in-Err-clause-told g c = λ used apart whole first.
     let session = c.args.session.now in
     let ports = g.L.Lines.state c.args.lines.now in
     let ports' = g.L.Lines.state c.execute.new.lines in
@@ -68,12 +70,12 @@ returns-in-Err-clause-told g c = λ told telling apart whole first.
     answers-of session.limit live texts c.args.command.now session.command (Err c.in-Err.fault) c.refuse.result
     (live_in c.execute.new.session (beyond (g.F.Files.state c.execute.new.files).files ports' whole)) (coming c.refuse.new.texts)
     tells before mid after (notes_said session.notes) (notes_said c.execute.new.session.notes) (c.is_too_deep.ensures.fits c.if-is_too_deep.false)
-    (c.in-Err.ensures.told (told-of g.F.Files.tells session.machine.slots g.L.Lines.tells ports session.machine.lines c.args.command.now told telling apart) whole first)
+    (c.in-Err.ensures.told (command-told g.F.Files.tells g.L.Lines.tells session.machine ports c.args.texts.now.scripts c.args.command.now (c.is_too_deep.ensures.fits c.if-is_too_deep.false) used apart) whole first)
     (λ own used does. denied texts (Ok c.args.command.now) (effect session.limit own live c.args.command.now) c.in-Err.fault c.refuse.result (coming c.refuse.new.texts) _ tells before mid after
     (g.S.Sink.fault_count c.execute.new.out) (g.S.Sink.fault_count c.refuse.new.out) c.refuse.ensures.texts refl does c.refuse.ensures.told)
 
 pub returns-then-is_too_deep-clause-short : goal.returns-then-is_too_deep-clause-short
-returns-then-is_too_deep-clause-short g c = λ told telling whole own is.
+returns-then-is_too_deep-clause-short g c = λ used whole own is.
     let session = c.args.session.now in
     let ports = g.L.Lines.state c.args.lines.now in
     let live = live_in session (beyond (g.F.Files.state c.args.files.now).files ports whole) in
@@ -81,7 +83,7 @@ returns-then-is_too_deep-clause-short g c = λ told telling whole own is.
     c.deny_line.ensures.memory
 
 pub returns-in_default-clause-short : goal.returns-in_default-clause-short
-returns-in_default-clause-short g c = λ told telling whole own is.
+returns-in_default-clause-short g c = λ used whole own is.
     let session = c.args.session.now in
     let live = live_in session (beyond (g.F.Files.state c.args.files.now).files (g.L.Lines.state c.args.lines.now) whole) in
     let n = nature c.args.command.now in (
@@ -92,7 +94,7 @@ returns-in_default-clause-short g c = λ told telling whole own is.
     )
 
 pub returns-clause-short : goal.returns-clause-short
-returns-clause-short g c = λ told telling whole own is.
+returns-clause-short g c = λ used whole own is.
     let session = c.args.session.now in
     let ports = g.L.Lines.state c.args.lines.now in
     let ports' = g.L.Lines.state c.execute.new.lines in
@@ -102,7 +104,7 @@ returns-clause-short g c = λ told telling whole own is.
 
 -- where memory ran out, no more is seen of the lines than before
 pub returns-in-Err-clause-short : goal.returns-in-Err-clause-short
-returns-in-Err-clause-short g c = λ told telling whole own is.
+returns-in-Err-clause-short g c = λ used whole own is.
     let session = c.args.session.now in
     let new = c.execute.new.session in
     let r = c.args.command.now in
@@ -110,9 +112,10 @@ returns-in-Err-clause-short g c = λ told telling whole own is.
     let ports' = g.L.Lines.state c.execute.new.lines in
     let files = (g.F.Files.state c.args.files.now).files in
     let files' = (g.F.Files.state c.execute.new.files).files in
+    let known = as-command g.F.Files.tells g.L.Lines.tells session.machine c.args.texts.now.scripts r (c.is_too_deep.ensures.fits c.if-is_too_deep.false) used in
     let undone = λ (short : c.in-Err.fault ≡ fault.OutOfMemory). c.in-Err.ensures.undone (ap Err short) in
     let same = λ (short : c.in-Err.fault ≡ fault.OutOfMemory).
-    still-seen g.L.Lines.tells r ports ports' telling
+    still-seen g.L.Lines.tells r (ports_of session.machine.lines) ports ports' known.1
     (subst (λ (f : CommandFault). IsUnasked r (Err f) ports ports') short (λ is other. ap (λ l. g.L.Lines.state l) (c.in-Err.ensures.unasked is other)))
     (subst (λ (f : CommandFault). ListenCause g.L.Lines.tells r (Err f) ports ports') short c.in-Err.ensures.listening) in
     refused-short (Ok r) session.command c.in-Err.fault c.refuse.result g.S.Sink.tells (live_in session (beyond files ports whole))
@@ -120,7 +123,7 @@ returns-in-Err-clause-short g c = λ told telling whole own is.
     (output (g.S.Sink.written c.refuse.new.out) ports'.sent) (g.S.Sink.fault_count c.execute.new.out) (g.S.Sink.fault_count c.refuse.new.out)
     (λ short. (
       subst (λ (x : Live). Remains (nature r).flushes (live_in session (beyond files ports whole)) x) (live-still new files' ports ports' whole (same short))
-          ((undone short).live (says g.F.Files.tells r told) ports whole),
+          ((undone short).live (says g.F.Files.tells r session.machine.slots known.0) ports whole),
       short-notes (nature r).reads_whole session.command session.machine.time session.notes new.notes own (undone short).notes is,
       (λ i. output ((undone short).written i) ((same short).sent i)),
     ))
@@ -131,3 +134,19 @@ returns-then-is_too_deep-clause-lines g c = left-same g.L.Lines.tells (g.L.Lines
 
 pub returns-in_default-clause-lines : goal.returns-in_default-clause-lines
 returns-in_default-clause-lines g c = left-same g.L.Lines.tells (g.L.Lines.state c.args.lines.now) c.args.session.now.machine.lines
+
+-- ---- lines that tell nothing
+
+pub returns-clause-still : goal.returns-clause-still
+returns-clause-still g c = λ used untold.
+    let m = c.args.session.now.machine in
+    let known = as-command g.F.Files.tells g.L.Lines.tells m c.args.texts.now.scripts c.args.command.now (c.is_too_deep.ensures.fits c.if-is_too_deep.false) used in
+    still-lines g.L.Lines.tells (Ok c.in-Ok-execute.next) (g.L.Lines.state c.args.lines.now) (g.L.Lines.state c.execute.new.lines) m.lines c.execute.new.session.machine.lines untold c.args.command.now known.1
+    (λ refused never. ap (λ l. g.L.Lines.state l) (c.in-Ok-execute.ensures.unasked refused never)) c.in-Ok-execute.ensures.line
+
+pub returns-in-Err-clause-still : goal.returns-in-Err-clause-still
+returns-in-Err-clause-still g c = λ used untold.
+    let m = c.args.session.now.machine in
+    let known = as-command g.F.Files.tells g.L.Lines.tells m c.args.texts.now.scripts c.args.command.now (c.is_too_deep.ensures.fits c.if-is_too_deep.false) used in
+    still-lines g.L.Lines.tells (Err c.in-Err.fault) (g.L.Lines.state c.args.lines.now) (g.L.Lines.state c.execute.new.lines) m.lines c.execute.new.session.machine.lines untold c.args.command.now known.1
+    (λ refused never. ap (λ l. g.L.Lines.state l) (c.in-Err.ensures.unasked refused never)) c.in-Err.ensures.line

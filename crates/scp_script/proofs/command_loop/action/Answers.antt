@@ -11,6 +11,7 @@ use Rattle.scp_script.specs.declared.progress.Finish.TheVariants.{Commands}
 use Rattle.scp_script.specs.Actions.{Texts, texts_of}
 use Rattle.scp_script.specs.Session.{spent_more}
 use Rattle.scp_script.specs.Loop.{IsShort, Answers, coming, session_of}
+use Rattle.scp_script.proofs.UsedLemmas.{action-used}
 use Rattle.scp_script.proofs.SessionLemmas.{action-unpaid, asking-action}
 use Rattle.scp_script.proofs.LineLemmas.{text-unpaid}
 use Rattle.scp_script.proofs.NoteLemmas.{has-first, action-text, action-there, action-stepped, over-alone, left-at, same-read, answer-kept}
@@ -18,7 +19,7 @@ use Rattle.scp_script.proofs.PortLemmas.{left-kept}
 use Rattle.scp_script.proofs.command_loop.action.Goals as goal
 
 pub returns-then-not-pay-clause-told : goal.returns-then-not-pay-clause-told
-returns-then-not-pay-clause-told g c = λ enough files telling apart sink whole begins input.
+returns-then-not-pay-clause-told g c = λ enough apart sink whole begins input next.
     let session = c.args.session.now in
     let paid = c.pay.new.session in
     let now_state = record session { command = paid.command } in
@@ -38,7 +39,7 @@ returns-then-not-pay-clause-told g c = λ enough files telling apart sink whole 
     (same-read lines.reader.open_ now.reader.open_ input input reader refl) refl))
 
 pub returns-in-Some-clause-told : goal.returns-in-Some-clause-told
-returns-in-Some-clause-told g c = λ enough files telling apart sink whole begins input.
+returns-in-Some-clause-told g c = λ enough apart sink whole begins input next.
     let session = c.args.session.now in
     let paid = c.pay.new.session in
     let ports = g.L.Lines.state c.args.ports.now in
@@ -61,6 +62,8 @@ returns-in-Some-clause-told g c = λ enough files telling apart sink whole begin
     let text : take c.in-Some.length c.take.new.out ≡ first.action =
     action-text now.texts.actions first.action first.others _ c.take.new.out c.in-Some.length there (sym c.in-Some.is ∙ c.take.ensures.count) c.take.ensures.text in
     let what = asked (take c.in-Some.length c.take.new.out) in
+    let used = action-used g.F.Files.tells g.L.Lines.tells session paid named lines now input first.action (take c.in-Some.length c.take.new.out) first.others (ap (λ (x : CommandState). x.machine) is)
+    (ap (λ (x : CommandLoop). x.texts.scripts) c.pay.ensures.lines) first.is paid_for.0 text next in
     let left : texts_of c.take.new.self now.texts.scripts ≡ texts_of first.others lines.texts.scripts =
     ap (λ (a : List (List ℕ)). texts_of a now.texts.scripts) (c.take.ensures.rest ∙ ap (drop 1) there) ∙ ap (λ (x : CommandLoop). texts_of first.others x.texts.scripts) c.pay.ensures.lines in
     let spent : done.command ≡ spent_more session.command 1 = omega (arith, c.pay.ensures.command, c.answer.ensures.command, paid_for.0, budget) in
@@ -68,11 +71,11 @@ returns-in-Some-clause-told g c = λ enough files telling apart sink whole begin
     let told = subst (λ (x : CommandState). Answers x.limit (live_in x named) (texts_of first.others lines.texts.scripts) what done.command result live (coming c.answer.new.texts) tells before after (notes_said x.notes) (notes_said done.notes)) is
     (subst (λ (t : Texts). Answers paid.limit (live_in paid named) t what done.command result live (coming c.answer.new.texts) tells before after (notes_said paid.notes) (notes_said done.notes)) left
     (subst (λ n. Answers paid.limit (live_in paid named) (texts_of c.take.new.self now.texts.scripts) what n result live (coming c.answer.new.texts) tells before after (notes_said paid.notes) (notes_said done.notes)) (sym c.answer.ensures.command)
-    (c.answer.ensures.told files telling (subst (λ (x : CommandState). AreApart ports x.machine.lines) (sym is) apart) whole begins))) in
+    (c.answer.ensures.told used (λ tells. subst (λ (x : CommandState). AreApart ports x.machine.lines) (sym is) (apart tells)) whole begins))) in
     let short = λ (own : List Note) (e : notes_said done.notes ≡ notes_said session.notes ++ own).
     subst (λ (x : CommandState). IsShort what done.command result (live_in x named) live own before after) is
     (subst (λ n. IsShort what n result (live_in paid named) live own before after) (sym c.answer.ensures.command)
-    (c.answer.ensures.short files telling whole own (e ∙ ap (λ (x : CommandState). notes_said x.notes ++ own) (sym is)))) in
+    (c.answer.ensures.short used whole own (e ∙ ap (λ (x : CommandState). notes_said x.notes ++ own) (sym is)))) in
     let limit = c.answer.ensures.limit ∙ ap (λ (x : CommandState). x.limit) is in
     action-stepped (session_of session named lines input []) (session_of done (beyond (g.F.Files.state c.answer.new.files).files ports' whole) last input []) first.action first.others what result tells before after
     (notes_said session.notes) (notes_said done.notes) sink first.is paid_for.0 (ap asked (sym text))
@@ -92,7 +95,7 @@ returns-in-Some-clause-kept g c =
 
 -- an action is there
 pub returns-in-None-clause-told : goal.returns-in-None-clause-told
-returns-in-None-clause-told g c = λ enough files telling apart sink whole begins input.
+returns-in-None-clause-told g c = λ enough apart sink whole begins input next.
     let first = has-first c.args.lines.now.texts.actions c.requires.some in
     absurd (action-there c.pay.new.lines.texts.actions first.action first.others (ap (λ (x : CommandLoop). x.texts.actions) c.pay.ensures.lines ∙ first.is) (sym c.in-None.is ∙ c.take.ensures.count))
 
@@ -110,3 +113,20 @@ pub returns-in-None-clause-ports : goal.returns-in-None-clause-ports
 returns-in-None-clause-ports g c =
     left-kept g.L.Lines.tells (g.L.Lines.state c.args.ports.now) c.args.session.now.machine.lines c.pay.new.session.machine.lines
     (ap (λ (x : CommandState). x.machine.lines) c.pay.ensures.rest)
+
+pub returns-in-Some-clause-still : goal.returns-in-Some-clause-still
+returns-in-Some-clause-still g c = λ untold whole input next.
+    let session = c.args.session.now in
+    let paid = c.pay.new.session in
+    let named = beyond (g.F.Files.state c.args.files.now).files (g.L.Lines.state c.args.ports.now) whole in
+    let lines = c.args.lines.now in
+    let now = c.pay.new.lines in
+    let paid_for = c.pay.ensures.paid c.if-not-pay.false in
+    let is = c.pay.ensures.rest in
+    let first = has-first lines.texts.actions c.requires.some in
+    let there : now.texts.actions ≡ first.action ∷ first.others = ap (λ (x : CommandLoop). x.texts.actions) c.pay.ensures.lines ∙ first.is in
+    let text : take c.in-Some.length c.take.new.out ≡ first.action =
+    action-text now.texts.actions first.action first.others _ c.take.new.out c.in-Some.length there (sym c.in-Some.is ∙ c.take.ensures.count) c.take.ensures.text in
+    c.answer.ensures.still
+    (action-used g.F.Files.tells g.L.Lines.tells session paid named lines now input first.action (take c.in-Some.length c.take.new.out) first.others (ap (λ (x : CommandState). x.machine) is)
+    (ap (λ (x : CommandLoop). x.texts.scripts) c.pay.ensures.lines) first.is paid_for.0 text next) untold

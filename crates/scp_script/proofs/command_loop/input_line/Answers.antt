@@ -1,8 +1,9 @@
-use Rattle.std.proofs.Common.{Some, None, inl, ◌≡◌, ◌<◌, [], Err, refl, ap, sym, ◌∙◌, subst, arith, ◌++◌, List}
+use Rattle.std.proofs.Common.{Some, None, ◌≡◌, ◌<◌, [], Ok, Err, refl, ap, sym, ◌∙◌, subst, arith, ◌++◌, List}
 use Rattle.unit_files.specs.Open.{Around}
 use Rattle.file_commands.specs.Notes.{Note, notes_said}
 use Rattle.scp_parser.specs.declared.fault.ParseFault.TheVariants.{TooLong}
 use Rattle.command_session.specs.declared.fault.CommandFault.TheVariants.{Parse}
+use Rattle.command_session.specs.declared.next.Next.TheVariants.{Go}
 use Rattle.nova_machine.specs.Comes.{output}
 use Rattle.telnet_lines.specs.Many.{AreApart}
 use Rattle.command_session.specs.Live.{CommandState, live_in, beyond}
@@ -20,10 +21,11 @@ use Rattle.scp_script.proofs.TextLemmas.{answers-none}
 use Rattle.scp_script.proofs.LineLemmas.{none-read, prompt-refused, budget-spent, input-failed}
 use Rattle.scp_script.proofs.NoteLemmas.{line-stepped, over-alone, input-closed, left-at, never-short, spent-line, answer-kept}
 use Rattle.scp_script.proofs.PortLemmas.{left-kept}
+use Rattle.scp_script.proofs.UsedLemmas.{line-used, end-used, lines-told, still-ended}
 use Rattle.scp_script.proofs.command_loop.input_line.Goals as goal
 
 pub returns-in-Err-clause-told : goal.returns-in-Err-clause-told
-returns-in-Err-clause-told g c = λ enough source files telling apart sink whole begins.
+returns-in-Err-clause-told g c = λ enough source apart sink whole begins next.
     let session = c.args.session.now in
     let input = g.C.Source.left c.args.input.now in
     let ports = g.L.Lines.state c.args.ports.now in
@@ -34,7 +36,7 @@ returns-in-Err-clause-told g c = λ enough source files telling apart sink whole
     (prompt-refused old old before after (λ i. texts_of (c.requires.actions i) (c.requires.scripts i)) c.requires.reads refl (none-read c.args.lines.now.reader.open_ input) (c.in-Err.ensures.told sink) refl)
 
 pub returns-in-Line-clause-told : goal.returns-in-Line-clause-told
-returns-in-Line-clause-told g c = λ enough source files telling apart sink whole begins.
+returns-in-Line-clause-told g c = λ enough source apart sink whole begins next.
     let session = c.args.session.now in
     let paid = c.read_paid.new.session in
     let ports = g.L.Lines.state c.args.ports.now in
@@ -56,16 +58,18 @@ returns-in-Line-clause-told g c = λ enough source files telling apart sink whol
     let is = c.read_paid.ensures.rest in
     let none = (λ i. coming (c.read_paid.ensures.texts i)) ∙ (λ i. texts_of (c.requires.actions i) (c.requires.scripts i)) in
     let reads = c.in-Line.ensures.reads source in
+    let used = line-used g.F.Files.tells g.L.Lines.tells session paid named lines now input now.reader.line c.line.result.now (ap (λ (x : CommandState). x.machine) is) (λ i. texts_of (c.requires.actions i) (c.requires.scripts i))
+    c.requires.reads reads.0 (ap (λ (t : Texts). t.scripts) none) c.line.ensures next in
     let spent = spent-line session.command paid.command lines.budget now.budget lines.reader.open_ input now.reader.line reads.0 reads.1 c.read_paid.ensures.command in
     let less : session.command < done.command = omega (arith, c.read_paid.ensures.command, c.in-Line.ensures.pays, c.answer.ensures.command, enough) in
     let told = subst (λ (x : CommandState). Answers x.limit (live_in x named) (texts_of [] []) what done.command result live (coming c.answer.new.texts) tells mid after (notes_said x.notes) (notes_said done.notes)) is
     (subst (λ (t : Texts). Answers paid.limit (live_in paid named) t what done.command result live (coming c.answer.new.texts) tells mid after (notes_said paid.notes) (notes_said done.notes)) none
     (subst (λ n. Answers paid.limit (live_in paid named) (coming now.texts) what n result live (coming c.answer.new.texts) tells mid after (notes_said paid.notes) (notes_said done.notes)) (sym c.answer.ensures.command)
-    (c.answer.ensures.told files telling (subst (λ (x : CommandState). AreApart ports x.machine.lines) (sym is) apart) whole begins))) in
+    (c.answer.ensures.told used (λ tells. subst (λ (x : CommandState). AreApart ports x.machine.lines) (sym is) (apart tells)) whole begins))) in
     let short = λ (own : List Note) (e : notes_said done.notes ≡ notes_said session.notes ++ own).
     subst (λ (x : CommandState). IsShort what done.command result (live_in x named) live own mid after) is
     (subst (λ n. IsShort what n result (live_in paid named) live own mid after) (sym c.answer.ensures.command)
-    (c.answer.ensures.short files telling whole own (e ∙ ap (λ (x : CommandState). notes_said x.notes ++ own) (sym is)))) in
+    (c.answer.ensures.short used whole own (e ∙ ap (λ (x : CommandState). notes_said x.notes ++ own) (sym is)))) in
     let limit = c.answer.ensures.limit ∙ ap (λ (x : CommandState). x.limit) is in
     line-stepped (session_of session named lines input []) (session_of done (beyond (g.F.Files.state c.answer.new.files).files ports' whole) last left []) now.reader.line what result tells before mid after
     (notes_said session.notes) (notes_said done.notes) sink (λ i. texts_of (c.requires.actions i) (c.requires.scripts i)) c.requires.reads reads.0 (ap asked (sym c.line.ensures))
@@ -77,7 +81,7 @@ returns-in-Line-clause-around g c = λ base around.
     c.answer.ensures.around base (subst (λ (x : CommandState). Around x.machine.slots base (g.F.Files.state c.args.files.now).opened) (sym c.read_paid.ensures.rest) around)
 
 pub returns-in-TooLong-clause-told : goal.returns-in-TooLong-clause-told
-returns-in-TooLong-clause-told g c = λ enough source files telling apart sink whole begins.
+returns-in-TooLong-clause-told g c = λ enough source apart sink whole begins next.
     let session = c.args.session.now in
     let paid = c.read_paid.new.session in
     let ports = g.L.Lines.state c.args.ports.now in
@@ -113,7 +117,7 @@ returns-in-TooLong-clause-told g c = λ enough source files telling apart sink w
     (c.in-Ok.ensures.told sink) refl told short)
 
 pub returns-in-Ok-detach_all-clause-told : goal.returns-in-Ok-detach_all-clause-told
-returns-in-Ok-detach_all-clause-told g c = λ enough source files telling apart sink whole begins.
+returns-in-Ok-detach_all-clause-told g c = λ enough source apart sink whole begins next.
     let session = c.args.session.now in
     let paid = c.read_paid.new.session in
     let ports = g.L.Lines.state c.args.ports.now in
@@ -129,14 +133,15 @@ returns-in-Ok-detach_all-clause-told g c = λ enough source files telling apart 
     let is = c.read_paid.ensures.rest in
     let reads = c.in-End.ensures.reads source in
     let same : paid.command ≡ session.command = omega (arith, c.read_paid.ensures.command, reads.1) in
+    let used = end-used g.F.Files.tells g.L.Lines.tells session paid named lines input (ap (λ (x : CommandState). x.machine) is) (λ i. texts_of (c.requires.actions i) (c.requires.scripts i)) c.requires.reads reads.0 next in
     let now_live = live_in done (beyond (g.F.Files.state c.detach_all.new.files).files ports' whole) in
     let closes = subst (λ n. Closes n (live_in session named) now_live None (notes_said session.notes) (notes_said done.notes)) same
-    (subst (λ (x : CommandState). Closes x.command (live_in x named) now_live None (notes_said x.notes) (notes_said done.notes)) is (c.in-Ok-detach_all.ensures.closes (inl (telling, subst (λ (x : CommandState). AreApart ports x.machine.lines) (sym is) apart)) whole)) in
+    (subst (λ (x : CommandState). Closes x.command (live_in x named) now_live None (notes_said x.notes) (notes_said done.notes)) is (c.in-Ok-detach_all.ensures.closes (lines-told g.L.Lines.tells ports paid.machine.lines used (λ tells. subst (λ (x : CommandState). AreApart ports x.machine.lines) (sym is) (apart tells))) whole)) in
     input-closed (session_of session named lines input []) (session_of done (beyond (g.F.Files.state c.detach_all.new.files).files ports' whole) now left []) None before after
     (notes_said session.notes) (notes_said done.notes) (λ i. texts_of (c.requires.actions i) (c.requires.scripts i)) c.requires.reads reads.0 closes reads.2 (c.in-Ok.ensures.told sink) c.detach_all.ensures.sent
 
 pub returns-in-Err-detach_all-clause-told : goal.returns-in-Err-detach_all-clause-told
-returns-in-Err-detach_all-clause-told g c = λ enough source files telling apart sink whole begins.
+returns-in-Err-detach_all-clause-told g c = λ enough source apart sink whole begins next.
     let session = c.args.session.now in
     let paid = c.read_paid.new.session in
     let ports = g.L.Lines.state c.args.ports.now in
@@ -152,14 +157,15 @@ returns-in-Err-detach_all-clause-told g c = λ enough source files telling apart
     let is = c.read_paid.ensures.rest in
     let reads = c.in-End.ensures.reads source in
     let same : paid.command ≡ session.command = omega (arith, c.read_paid.ensures.command, reads.1) in
+    let used = end-used g.F.Files.tells g.L.Lines.tells session paid named lines input (ap (λ (x : CommandState). x.machine) is) (λ i. texts_of (c.requires.actions i) (c.requires.scripts i)) c.requires.reads reads.0 next in
     let now_live = live_in done (beyond (g.F.Files.state c.detach_all.new.files).files ports' whole) in
     let closes = subst (λ n. Closes n (live_in session named) now_live (Some c.in-Err-detach_all._fault.unit) (notes_said session.notes) (notes_said done.notes)) same
-    (subst (λ (x : CommandState). Closes x.command (live_in x named) now_live (Some c.in-Err-detach_all._fault.unit) (notes_said x.notes) (notes_said done.notes)) is (c.in-Err-detach_all.ensures.closes (inl (telling, subst (λ (x : CommandState). AreApart ports x.machine.lines) (sym is) apart)) whole)) in
+    (subst (λ (x : CommandState). Closes x.command (live_in x named) now_live (Some c.in-Err-detach_all._fault.unit) (notes_said x.notes) (notes_said done.notes)) is (c.in-Err-detach_all.ensures.closes (lines-told g.L.Lines.tells ports paid.machine.lines used (λ tells. subst (λ (x : CommandState). AreApart ports x.machine.lines) (sym is) (apart tells))) whole)) in
     input-closed (session_of session named lines input []) (session_of done (beyond (g.F.Files.state c.detach_all.new.files).files ports' whole) now left []) (Some c.in-Err-detach_all._fault.unit) before after
     (notes_said session.notes) (notes_said done.notes) (λ i. texts_of (c.requires.actions i) (c.requires.scripts i)) c.requires.reads reads.0 closes reads.2 (c.in-Ok.ensures.told sink) c.detach_all.ensures.sent
 
 pub returns-in-Unpaid-clause-told : goal.returns-in-Unpaid-clause-told
-returns-in-Unpaid-clause-told g c = λ enough source files telling apart sink whole begins.
+returns-in-Unpaid-clause-told g c = λ enough source apart sink whole begins next.
     let session = c.args.session.now in
     let paid = c.read_paid.new.session in
     let ports = g.L.Lines.state c.args.ports.now in
@@ -180,7 +186,7 @@ returns-in-Unpaid-clause-told g c = λ enough source files telling apart sink wh
     (budget-spent old new before after (λ i. texts_of (c.requires.actions i) (c.requires.scripts i)) c.requires.reads reads.0 refl reads.1 (c.in-Ok.ensures.told sink) refl))
 
 pub returns-in-Failed-clause-told : goal.returns-in-Failed-clause-told
-returns-in-Failed-clause-told g c = λ enough source files telling apart sink whole begins.
+returns-in-Failed-clause-told g c = λ enough source apart sink whole begins next.
     let session = c.args.session.now in
     let paid = c.read_paid.new.session in
     let ports = g.L.Lines.state c.args.ports.now in
@@ -247,3 +253,31 @@ returns-in-Err-detach_all-clause-ports g c =
 
 pub returns-in-Err-clause-ports : goal.returns-in-Err-clause-ports
 returns-in-Err-clause-ports g c = left-same g.L.Lines.tells (g.L.Lines.state c.args.ports.now) c.args.session.now.machine.lines
+
+-- ---- lines that tell nothing
+
+pub returns-in-Line-clause-still : goal.returns-in-Line-clause-still
+returns-in-Line-clause-still g c = λ source untold whole next.
+    let session = c.args.session.now in
+    let paid = c.read_paid.new.session in
+    let named = beyond (g.F.Files.state c.args.files.now).files (g.L.Lines.state c.args.ports.now) whole in
+    let now = c.read_paid.new.lines in
+    let none : coming now.texts ≡ texts_of [] [] = (λ i. coming (c.read_paid.ensures.texts i)) ∙ (λ i. texts_of (c.requires.actions i) (c.requires.scripts i)) in
+    let reads = c.in-Line.ensures.reads source in
+    c.answer.ensures.still
+    (line-used g.F.Files.tells g.L.Lines.tells session paid named c.args.lines.now now (g.C.Source.left c.args.input.now) now.reader.line c.line.result.now (ap (λ (x : CommandState). x.machine) c.read_paid.ensures.rest)
+    (λ i. texts_of (c.requires.actions i) (c.requires.scripts i)) c.requires.reads reads.0 (ap (λ (t : Texts). t.scripts) none) c.line.ensures next) untold
+
+pub returns-in-Ok-detach_all-clause-still : goal.returns-in-Ok-detach_all-clause-still
+returns-in-Ok-detach_all-clause-still g c = λ source untold whole next.
+    let session = c.args.session.now in
+    let paid = c.read_paid.new.session in
+    let ports = g.L.Lines.state c.args.ports.now in
+    let named = beyond (g.F.Files.state c.args.files.now).files ports whole in
+    let reads = c.in-End.ensures.reads source in
+    still-ended g.L.Lines.tells (Ok Go) ports (g.L.Lines.state c.detach_all.new.lines) paid.machine.lines c.detach_all.new.self.machine.lines untold
+    (end-used g.F.Files.tells g.L.Lines.tells session paid named c.args.lines.now (g.C.Source.left c.args.input.now) (ap (λ (x : CommandState). x.machine) c.read_paid.ensures.rest)
+    (λ i. texts_of (c.requires.actions i) (c.requires.scripts i)) c.requires.reads reads.0 next) c.in-Ok-detach_all.ensures.line
+
+pub returns-in-Err-detach_all-clause-still : goal.returns-in-Err-detach_all-clause-still
+returns-in-Err-detach_all-clause-still g c = λ source untold whole next. ap (λ l. g.L.Lines.state l) c.in-Err-detach_all.ensures.unasked

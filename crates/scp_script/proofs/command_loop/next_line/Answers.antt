@@ -8,13 +8,15 @@ use Rattle.scp_script.specs.declared.progress.Progress.TheVariants.{IsOver}
 use Rattle.scp_script.specs.declared.progress.Finish.TheVariants.{Exit, OutOfMemory}
 use Rattle.scp_script.specs.Actions.{texts_of}
 use Rattle.scp_script.specs.Loop.{session_of, Stepped}
+use Rattle.scp_script.specs.Used.{NextTold}
+use Rattle.scp_script.proofs.UsedLemmas.{told-still}
 use Rattle.scp_script.proofs.LineLemmas.{none-read, all-done}
 use Rattle.scp_script.proofs.NoteLemmas.{over-alone, room-refused, left-at, closed-before}
 use Rattle.scp_script.proofs.PortLemmas.{left-kept}
 use Rattle.scp_script.proofs.command_loop.next_line.Goals as goal
 
 pub returns-then-is_err-clause-told : goal.returns-then-is_err-clause-told
-returns-then-is_err-clause-told g c = λ enough source files telling apart sink whole begins.
+returns-then-is_err-clause-told g c = λ enough source apart sink whole begins next.
     let session = c.args.session.now in
     let taken = record session { spare = c.take_room.new.self.spare } in
     let ports = g.L.Lines.state c.args.ports.now in
@@ -27,7 +29,7 @@ returns-then-is_err-clause-told g c = λ enough source files telling apart sink 
     (over-alone old new OutOfMemory before before (notes_said session.notes) (notes_said session.notes) refl (room-refused old new before refl refl))
 
 pub returns-in-Some-clause-told : goal.returns-in-Some-clause-told
-returns-in-Some-clause-told g c = λ enough source files telling apart sink whole begins.
+returns-in-Some-clause-told g c = λ enough source apart sink whole begins next.
     let session = c.args.session.now in
     let number = ap (λ (x : CommandState). x.command) c.take_room.ensures.rest in
     let ports = g.L.Lines.state c.args.ports.now in
@@ -39,12 +41,14 @@ returns-in-Some-clause-told g c = λ enough source files telling apart sink whol
     let after = output (g.S.Sink.written c.script_line.new.out) ports'.sent in
     let new = session_of c.script_line.new.session (beyond (g.F.Files.state c.script_line.new.files).files ports' whole) c.script_line.new.lines left in
     let scripts = c.in-Some.script ∷ c.pop_open.new.self in
+    let used = subst (λ (x : CommandState). NextTold g.F.Files.tells g.L.Lines.tells (session_of x named (record lines { texts = record lines.texts { scripts = scripts } }) left [])) (sym c.take_room.ensures.rest)
+    (told-still g.F.Files.tells g.L.Lines.tells (session_of session named lines left []) scripts (c.is_empty.ensures.0 c.if-not-is_empty.false) c.in-Some.ensures.taken next) in
     closed-before (session_of session named lines left []) scripts c.script_line.result new before after (notes_said session.notes) (notes_said c.script_line.new.session.notes) (c.is_empty.ensures.0 c.if-not-is_empty.false) c.in-Some.ensures.taken
     (subst (λ (x : CommandState). Stepped (session_of x named (record lines { texts = record lines.texts { scripts = scripts } }) left) c.script_line.result new before after (notes_said x.notes) (notes_said c.script_line.new.session.notes))
-    c.take_room.ensures.rest (c.script_line.ensures.told (omega (arith, enough, number)) files telling (subst (λ (x : CommandState). AreApart ports x.machine.lines) (sym c.take_room.ensures.rest) apart) sink whole begins left))
+    c.take_room.ensures.rest (c.script_line.ensures.told (omega (arith, enough, number)) (λ tells. subst (λ (x : CommandState). AreApart ports x.machine.lines) (sym c.take_room.ensures.rest) (apart tells)) sink whole begins left used))
 
 pub returns-in-None-clause-told : goal.returns-in-None-clause-told
-returns-in-None-clause-told g c = λ enough source files telling apart sink whole begins.
+returns-in-None-clause-told g c = λ enough source apart sink whole begins next.
     let session = c.args.session.now in
     let number = ap (λ (x : CommandState). x.command) c.take_room.ensures.rest in
     let ports = g.L.Lines.state c.args.ports.now in
@@ -56,24 +60,27 @@ returns-in-None-clause-told g c = λ enough source files telling apart sink whol
     let after = output (g.S.Sink.written c.input_line.new.out) ports'.sent in
     let new = session_of c.input_line.new.session (beyond (g.F.Files.state c.input_line.new.files).files ports' whole) c.input_line.new.lines (g.C.Source.left c.input_line.new.input) in
     let scripts = c.pop_open.new.self in
+    let used = subst (λ (x : CommandState). NextTold g.F.Files.tells g.L.Lines.tells (session_of x named (record lines { texts = record lines.texts { scripts = scripts } }) left [])) (sym c.take_room.ensures.rest)
+    (told-still g.F.Files.tells g.L.Lines.tells (session_of session named lines left []) scripts (c.is_empty.ensures.0 c.if-not-is_empty.false) (c.in-None.ensures.taken.0 ∙ sym c.in-None.ensures.taken.1) next) in
     closed-before (session_of session named lines left []) scripts c.input_line.result new before after (notes_said session.notes) (notes_said c.input_line.new.session.notes)
     (c.is_empty.ensures.0 c.if-not-is_empty.false) (c.in-None.ensures.taken.0 ∙ sym c.in-None.ensures.taken.1)
     (subst (λ (x : CommandState). Stepped (session_of x named (record lines { texts = record lines.texts { scripts = scripts } }) left) c.input_line.result new before after (notes_said x.notes) (notes_said c.input_line.new.session.notes))
-    c.take_room.ensures.rest (c.input_line.ensures.told (omega (arith, enough, number)) (source c.if-lines.true) files telling (subst (λ (x : CommandState). AreApart ports x.machine.lines) (sym c.take_room.ensures.rest) apart) sink whole begins))
+    c.take_room.ensures.rest (c.input_line.ensures.told (omega (arith, enough, number)) (source c.if-lines.true) (λ tells. subst (λ (x : CommandState). AreApart ports x.machine.lines) (sym c.take_room.ensures.rest) (apart tells)) sink whole begins used))
 
 pub returns-then-not-is_empty-clause-told : goal.returns-then-not-is_empty-clause-told
-returns-then-not-is_empty-clause-told g c = λ enough source files telling apart sink whole begins.
+returns-then-not-is_empty-clause-told g c = λ enough source apart sink whole begins next.
     let number = ap (λ (x : CommandState). x.command) c.take_room.ensures.rest in
     let ports = g.L.Lines.state c.args.ports.now in
     let ports' = g.L.Lines.state c.action.new.ports in
     let named = beyond (g.F.Files.state c.args.files.now).files ports whole in
     let left = g.C.Source.left c.args.input.now in
     let new = session_of c.action.new.session (beyond (g.F.Files.state c.action.new.files).files ports' whole) c.action.new.lines left in
+    let used = subst (λ (x : CommandState). NextTold g.F.Files.tells g.L.Lines.tells (session_of x named c.args.lines.now left [])) (sym c.take_room.ensures.rest) next in
     subst (λ (x : CommandState). Stepped (session_of x named c.args.lines.now left) c.action.result new (output (g.S.Sink.written c.args.out.now) ports.sent) (output (g.S.Sink.written c.action.new.out) ports'.sent) (notes_said x.notes) (notes_said c.action.new.session.notes))
-    c.take_room.ensures.rest (c.action.ensures.told (omega (arith, enough, number)) files telling (subst (λ (x : CommandState). AreApart ports x.machine.lines) (sym c.take_room.ensures.rest) apart) sink whole begins left)
+    c.take_room.ensures.rest (c.action.ensures.told (omega (arith, enough, number)) (λ tells. subst (λ (x : CommandState). AreApart ports x.machine.lines) (sym c.take_room.ensures.rest) (apart tells)) sink whole begins left used)
 
 pub returns-in-None-2-clause-told : goal.returns-in-None-2-clause-told
-returns-in-None-2-clause-told g c = λ enough source files telling apart sink whole begins.
+returns-in-None-2-clause-told g c = λ enough source apart sink whole begins next.
     let session = c.args.session.now in
     let taken = record session { spare = c.take_room.new.self.spare } in
     let ports = g.L.Lines.state c.args.ports.now in
@@ -116,3 +123,34 @@ pub returns-in-None-2-clause-ports : goal.returns-in-None-2-clause-ports
 returns-in-None-2-clause-ports g c =
     left-kept g.L.Lines.tells (g.L.Lines.state c.args.ports.now) c.args.session.now.machine.lines c.take_room.new.self.machine.lines
     (ap (λ (x : CommandState). x.machine.lines) c.take_room.ensures.rest)
+
+-- ---- lines that tell nothing
+
+pub returns-then-not-is_empty-clause-still : goal.returns-then-not-is_empty-clause-still
+returns-then-not-is_empty-clause-still g c = λ source untold whole next.
+    let named = beyond (g.F.Files.state c.args.files.now).files (g.L.Lines.state c.args.ports.now) whole in
+    let left = g.C.Source.left c.args.input.now in
+    c.action.ensures.still untold whole left
+    (subst (λ (x : CommandState). NextTold g.F.Files.tells g.L.Lines.tells (session_of x named c.args.lines.now left [])) (sym c.take_room.ensures.rest) next)
+
+pub returns-in-Some-clause-still : goal.returns-in-Some-clause-still
+returns-in-Some-clause-still g c = λ source untold whole next.
+    let session = c.args.session.now in
+    let named = beyond (g.F.Files.state c.args.files.now).files (g.L.Lines.state c.args.ports.now) whole in
+    let lines = c.args.lines.now in
+    let left = g.C.Source.left c.args.input.now in
+    let scripts = c.in-Some.script ∷ c.pop_open.new.self in
+    let used = subst (λ (x : CommandState). NextTold g.F.Files.tells g.L.Lines.tells (session_of x named (record lines { texts = record lines.texts { scripts = scripts } }) left [])) (sym c.take_room.ensures.rest)
+    (told-still g.F.Files.tells g.L.Lines.tells (session_of session named lines left []) scripts (c.is_empty.ensures.0 c.if-not-is_empty.false) c.in-Some.ensures.taken next) in
+    c.script_line.ensures.still untold whole left used
+
+pub returns-in-None-clause-still : goal.returns-in-None-clause-still
+returns-in-None-clause-still g c = λ source untold whole next.
+    let session = c.args.session.now in
+    let named = beyond (g.F.Files.state c.args.files.now).files (g.L.Lines.state c.args.ports.now) whole in
+    let lines = c.args.lines.now in
+    let left = g.C.Source.left c.args.input.now in
+    let scripts = c.pop_open.new.self in
+    let used = subst (λ (x : CommandState). NextTold g.F.Files.tells g.L.Lines.tells (session_of x named (record lines { texts = record lines.texts { scripts = scripts } }) left [])) (sym c.take_room.ensures.rest)
+    (told-still g.F.Files.tells g.L.Lines.tells (session_of session named lines left []) scripts (c.is_empty.ensures.0 c.if-not-is_empty.false) (c.in-None.ensures.taken.0 ∙ sym c.in-None.ensures.taken.1) next) in
+    c.input_line.ensures.still (source c.if-lines.true) untold whole used

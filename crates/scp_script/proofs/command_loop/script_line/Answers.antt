@@ -21,10 +21,11 @@ use Rattle.scp_script.proofs.LineLemmas.{asking-refused, text-unpaid, some-fits,
 use Rattle.scp_script.proofs.NoteLemmas.{script-stepped, over-alone, left-at, never-short, same-read, answer-kept}
 use Rattle.scp_script.proofs.WholeLemmas.{kept-none}
 use Rattle.scp_script.proofs.PortLemmas.{left-kept}
+use Rattle.scp_script.proofs.UsedLemmas.{script-used}
 use Rattle.scp_script.proofs.command_loop.script_line.Goals as goal
 
 pub returns-then-not-pay-clause-told : goal.returns-then-not-pay-clause-told
-returns-then-not-pay-clause-told g c = λ enough files telling apart sink whole begins input.
+returns-then-not-pay-clause-told g c = λ enough apart sink whole begins input next.
     let session = c.args.session.now in
     let paid = c.pay.new.session in
     let now_state = record session { command = paid.command } in
@@ -48,7 +49,7 @@ returns-then-not-pay-clause-told g c = λ enough files telling apart sink whole 
     (same-read lines.reader.open_ now.reader.open_ input input reader refl) refl))
 
 pub returns-in-Err-clause-told : goal.returns-in-Err-clause-told
-returns-in-Err-clause-told g c = λ enough files telling apart sink whole begins input.
+returns-in-Err-clause-told g c = λ enough apart sink whole begins input next.
     let session = c.args.session.now in
     let paid = c.pay.new.session in
     let now_state = record session { command = paid.command } in
@@ -73,7 +74,7 @@ returns-in-Err-clause-told g c = λ enough files telling apart sink whole begins
     (same-read lines.reader.open_ now.reader.open_ input input reader refl) (c.in-Err.ensures.told sink) refl))
 
 pub returns-in-Some-clause-told : goal.returns-in-Some-clause-told
-returns-in-Some-clause-told g c = λ enough files telling apart sink whole begins input.
+returns-in-Some-clause-told g c = λ enough apart sink whole begins input next.
     let session = c.args.session.now in
     let paid = c.pay.new.session in
     let now_state = record session { command = paid.command } in
@@ -105,16 +106,17 @@ returns-in-Some-clause-told g c = λ enough files telling apart sink whole begin
     c.push.ensures ∙ ap (λ (x : Script). x ∷ now.texts.scripts) c.take_line-text.ensures.past ∙ ap (λ (x : CommandLoop). past_line script ∷ x.texts.scripts) c.pay.ensures.lines in
     let stack : texts_of now.texts.actions c.push.new.self ≡ texts_of [] (past_line script ∷ outer) = ap (λ (a : List (List ℕ)). texts_of a c.push.new.self) none ∙ ap (texts_of []) pushed in
     let line : c.as_slice.result.now ≡ text_of_line script = c.as_slice.ensures ∙ some-fits c.in-Some.text (text_of_line script) (sym c.in-Some.is ∙ c.take_line-text.ensures.text) in
+    let used = script-used g.F.Files.tells g.L.Lines.tells session paid named lines script outer input c.as_slice.result.now c.push.new.self (ap (λ (x : CommandState). x.machine) is) there c.requires.line fits pushed line next in
     let spent : done.command ≡ spent_more session.command (cost_of_line script) = omega (arith, c.pay.ensures.command, c.answer.ensures.command, fits, budget) in
     let less : session.command < done.command = omega (arith, spent, enough, fits) in
     let told = subst (λ (x : CommandState). Answers x.limit (live_in x named) (texts_of [] (past_line script ∷ outer)) what done.command result live (coming c.answer.new.texts) tells mid after (notes_said x.notes) (notes_said done.notes)) is
     (subst (λ (t : Texts). Answers paid.limit (live_in paid named) t what done.command result live (coming c.answer.new.texts) tells mid after (notes_said paid.notes) (notes_said done.notes)) stack
     (subst (λ n. Answers paid.limit (live_in paid named) (texts_of now.texts.actions c.push.new.self) what n result live (coming c.answer.new.texts) tells mid after (notes_said paid.notes) (notes_said done.notes)) (sym c.answer.ensures.command)
-    (c.answer.ensures.told files telling (subst (λ (x : CommandState). AreApart ports x.machine.lines) (sym is) apart) whole begins))) in
+    (c.answer.ensures.told used (λ tells. subst (λ (x : CommandState). AreApart ports x.machine.lines) (sym is) (apart tells)) whole begins))) in
     let short = λ (own : List Note) (e : notes_said done.notes ≡ notes_said session.notes ++ own).
     subst (λ (x : CommandState). IsShort what done.command result (live_in x named) live own mid after) is
     (subst (λ n. IsShort what n result (live_in paid named) live own mid after) (sym c.answer.ensures.command)
-    (c.answer.ensures.short files telling whole own (e ∙ ap (λ (x : CommandState). notes_said x.notes ++ own) (sym is)))) in
+    (c.answer.ensures.short used whole own (e ∙ ap (λ (x : CommandState). notes_said x.notes ++ own) (sym is)))) in
     let limit = c.answer.ensures.limit ∙ ap (λ (x : CommandState). x.limit) is in
     script-stepped (session_of session named lines input []) (session_of done (beyond (g.F.Files.state c.answer.new.files).files ports' whole) last input []) script outer what result tells before mid after
     (notes_said session.notes) (notes_said done.notes) sink there c.requires.line fits (ap asked (sym line))
@@ -122,7 +124,7 @@ returns-in-Some-clause-told g c = λ enough files telling apart sink whole begin
     (c.in-Ok.ensures.told sink) refl told short
 
 pub returns-in-None-clause-told : goal.returns-in-None-clause-told
-returns-in-None-clause-told g c = λ enough files telling apart sink whole begins input.
+returns-in-None-clause-told g c = λ enough apart sink whole begins input next.
     let session = c.args.session.now in
     let paid = c.pay.new.session in
     let now_state = record session { command = paid.command } in
@@ -205,3 +207,22 @@ returns-in-Err-clause-keeps g c =
     let files = g.F.Files.state c.args.files.now in
     let notes = c.args.session.now.notes in
     subst (λ (x : CommandState). AreKept notes x.notes files files) (sym c.pay.ensures.rest) (kept-none notes files)
+
+pub returns-in-Some-clause-still : goal.returns-in-Some-clause-still
+returns-in-Some-clause-still g c = λ untold whole input next.
+    let session = c.args.session.now in
+    let paid = c.pay.new.session in
+    let named = beyond (g.F.Files.state c.args.files.now).files (g.L.Lines.state c.args.ports.now) whole in
+    let script = c.args.script in
+    let outer = c.args.lines.now.texts.scripts in
+    let lines = record c.args.lines.now { texts = record c.args.lines.now.texts { scripts = script ∷ outer } } in
+    let now = c.pay.new.lines in
+    let there : texts_of c.args.lines.now.texts.actions (script ∷ outer) ≡ texts_of [] (script ∷ outer) = ap (λ (a : List (List ℕ)). texts_of a (script ∷ outer)) c.requires.actions in
+    let paid_for = c.pay.ensures.paid c.if-not-pay.false in
+    let fits : cost_of_line script ≤ lines.budget = omega (arith, paid_for.0, c.line_cost.ensures) in
+    let pushed : c.push.new.self ≡ past_line script ∷ outer =
+    c.push.ensures ∙ ap (λ (x : Script). x ∷ now.texts.scripts) c.take_line-text.ensures.past ∙ ap (λ (x : CommandLoop). past_line script ∷ x.texts.scripts) c.pay.ensures.lines in
+    let line : c.as_slice.result.now ≡ text_of_line script = c.as_slice.ensures ∙ some-fits c.in-Some.text (text_of_line script) (sym c.in-Some.is ∙ c.take_line-text.ensures.text) in
+    c.answer.ensures.still
+    (script-used g.F.Files.tells g.L.Lines.tells session paid named lines script outer input c.as_slice.result.now c.push.new.self (ap (λ (x : CommandState). x.machine) c.pay.ensures.rest) there c.requires.line fits pushed line next)
+    untold

@@ -1,4 +1,4 @@
-use Rattle.std.proofs.Common.{◌≡◌, ◌-◌, true, List, [], Option, refl, ap, sym, ◌∙◌, subst, arith}
+use Rattle.std.proofs.Common.{◌≡◌, ◌-◌, IsTrue, true, List, [], Option, refl, ap, sym, ◌∙◌, subst, arith}
 use Rattle.unit_list.specs.Bus.{kinds_of}
 use Rattle.unit_files.specs.Attachments.{Held}
 use Rattle.unit_files.specs.Open.{AllOpen, Around}
@@ -10,14 +10,16 @@ use Rattle.scp_script.specs.Session.{Session}
 use Rattle.scp_script.specs.declared.progress.CommandLoop.{CommandLoop}
 use Rattle.scp_script.specs.Scripts.{first_script}
 use Rattle.scp_script.specs.Perform.{beginning, beginning_with}
-use Rattle.host_lines.specs.Told.{record_in}
+use Rattle.host_lines.specs.Traffic.{Answer as LineAnswer}
+use Rattle.host_lines.specs.Told.{IsFirst, record_in}
 use Rattle.nova_machine.specs.Comes.{output}
 use Rattle.command_session.specs.LinesLeft.{LinesLeft}
-use Rattle.nova_machine.proofs.LineSteps.{first-through}
+use Rattle.nova_machine.proofs.LineSteps.{first-same, first-through}
 use Rattle.command_session.proofs.PortLemmas.{left-same, left-then}
 use Rattle.command_session.specs.Live.{CommandState, beyond}
 use Rattle.scp_script.specs.Loop.{AreKept, session_of}
 use Rattle.scp_script.proofs.WholeLemmas.{ComesSoFar, begun, never-begun, further, over, kept-none, kept-both, causes-behind, kept-since}
+use Rattle.scp_script.proofs.UsedLemmas.{next-told, grown}
 use Rattle.scp_script.proofs.perform_session.perform.Goals as goal
 
 pub lines-init : goal.lines-init
@@ -32,7 +34,7 @@ lines-init g c =
       keys = refl;
       reads = ap (λ (x : CommandLoop). x.reads) started;
       unread = λ off. refl;
-      told = λ enough source files telling apart sink whole begins.
+      told = λ enough source used apart sink whole begins.
           let ports = g.L.Lines.state c.args.lines.now in
           rw started (begun (session_of c.args.session.now (beyond (g.F.Files.state c.args.files.now).files ports whole)
           (record { texts = record { actions = []; scripts = first_script c.args.opening.now.script c.args.opening.now.arguments.items }; reads = c.args.opening.now.reads; reader = record { line = []; open_ = true }; budget = c.args.opening.now.budget; prompt = c.args.opening.now.prompt })
@@ -63,12 +65,21 @@ lines-preserved g c =
       keys = ap (λ (x : CommandState). x.keys) is ∙ c.in-GoesOn.ensures.keys ∙ c.lines.invariant.keys;
       reads = c.in-GoesOn.ensures.reads ∙ c.lines.invariant.reads;
       unread = λ off. c.in-GoesOn.ensures.unread (c.lines.invariant.reads ∙ off) ∙ c.lines.invariant.unread off;
-      told = λ enough source files telling apart sink whole begins.
+      told = λ enough source used apart sink whole begins.
           let ports = g.L.Lines.state c.args.lines.now in
           let ports-mid = g.L.Lines.state c.lines.lines in
           let ports' = g.L.Lines.state c.next_line.new.ports in
-          let there = c.lines.invariant.lines.told telling apart in
-          let more = c.in-GoesOn.ensures.ports.told telling there.0 in
+          let begin = λ (w : List LineAnswer) (notes : List Note). beginning c.args.session.now (beyond (g.F.Files.state c.args.files.now).files ports w) c.args.opening.now (g.C.Source.left c.args.input.now) notes in
+          let mid = λ (w : List LineAnswer) (notes : List Note). session_of c.lines.session (beyond (g.F.Files.state c.lines.files).files ports-mid w) c.lines.texts (g.C.Source.left c.lines.input) notes in
+          let so_far = c.lines.invariant.told enough source used apart sink in
+          let next = λ (w : List LineAnswer) (at : IsFirst (record_in ports-mid.told) w).
+          next-told g.F.Files.tells g.L.Lines.tells begin w (mid w) (output (g.S.Sink.written c.args.out.now) ports.sent) (output (g.S.Sink.written c.lines.out) ports-mid.sent)
+          (notes_said c.args.session.now.notes) (notes_said c.lines.session.notes) used (so_far w at) in
+          let reads = λ (on : c.lines.texts.reads ≡ true). source (sym c.lines.invariant.reads ∙ on) in
+          let apart-mid = λ (tells : IsTrue g.L.Lines.tells). (c.lines.invariant.lines.told tells (apart tells)).0 in
+          let grows = grown g.L.Lines.tells ports-mid ports' (λ tells. (c.in-GoesOn.ensures.ports.told tells (apart-mid tells)).1)
+          (λ untold. c.next_line.ensures.still reads untold (record_in ports-mid.told) (next (record_in ports-mid.told) (first-same (record_in ports-mid.told)))) in
+          let back = first-through (record_in ports-mid.told) (record_in ports'.told) whole grows begins in
           let start : List Note → Session = λ notes. beginning c.args.session.now (beyond (g.F.Files.state c.args.files.now).files ports whole) c.args.opening.now (g.C.Source.left c.args.input.now) notes in
           subst (λ (x : CommandState). ComesSoFar start (session_of x (beyond new.files ports' whole) c.next_line.new.lines (g.C.Source.left c.next_line.new.input))
           (output (g.S.Sink.written c.args.out.now) ports.sent) (output (g.S.Sink.written c.next_line.new.out) ports'.sent) (notes_said c.args.session.now.notes) (notes_said x.notes)) (sym is)
@@ -77,8 +88,8 @@ lines-preserved g c =
           (session_of done (beyond new.files ports' whole) c.next_line.new.lines (g.C.Source.left c.next_line.new.input))
           (output (g.S.Sink.written c.args.out.now) ports.sent) (output (g.S.Sink.written c.lines.out) ports-mid.sent) (output (g.S.Sink.written c.next_line.new.out) ports'.sent)
           (notes_said c.args.session.now.notes) (notes_said c.lines.session.notes) (notes_said done.notes)
-          (c.lines.invariant.told enough source files telling apart sink whole (first-through (record_in ports-mid.told) (record_in ports'.told) whole more.1 begins))
-          (c.in-GoesOn.ensures.told (omega (arith, enough, c.lines.invariant.command, c.lines.invariant.paid)) (λ on. source (sym c.lines.invariant.reads ∙ on)) files telling there.0 sink whole begins));
+          (so_far whole back)
+          (c.in-GoesOn.ensures.told (omega (arith, enough, c.lines.invariant.command, c.lines.invariant.paid)) reads apart-mid sink whole begins (next whole back)));
       lines =
           let ports = g.L.Lines.state c.args.lines.now in
           let ports' = g.L.Lines.state c.next_line.new.ports in
@@ -105,19 +116,28 @@ lines-preserved g c =
     }
 
 pub returns-in-IsOver-clause-told : goal.returns-in-IsOver-clause-told
-returns-in-IsOver-clause-told g c = λ enough source files telling apart sink whole begins.
+returns-in-IsOver-clause-told g c = λ enough source used apart sink whole begins.
     let ports = g.L.Lines.state c.args.lines.now in
     let ports-mid = g.L.Lines.state c.lines.lines in
     let ports' = g.L.Lines.state c.next_line.new.ports in
-    let there = c.lines.invariant.lines.told telling apart in
-    let more = c.in-IsOver.ensures.ports.told telling there.0 in
+    let begin = λ (w : List LineAnswer) (notes : List Note). beginning c.args.session.now (beyond (g.F.Files.state c.args.files.now).files ports w) c.args.opening.now (g.C.Source.left c.args.input.now) notes in
+    let mid = λ (w : List LineAnswer) (notes : List Note). session_of c.lines.session (beyond (g.F.Files.state c.lines.files).files ports-mid w) c.lines.texts (g.C.Source.left c.lines.input) notes in
+    let so_far = c.lines.invariant.told enough source used apart sink in
+    let next = λ (w : List LineAnswer) (at : IsFirst (record_in ports-mid.told) w).
+    next-told g.F.Files.tells g.L.Lines.tells begin w (mid w) (output (g.S.Sink.written c.args.out.now) ports.sent) (output (g.S.Sink.written c.lines.out) ports-mid.sent)
+    (notes_said c.args.session.now.notes) (notes_said c.lines.session.notes) used (so_far w at) in
+    let reads = λ (on : c.lines.texts.reads ≡ true). source (sym c.lines.invariant.reads ∙ on) in
+    let apart-mid = λ (tells : IsTrue g.L.Lines.tells). (c.lines.invariant.lines.told tells (apart tells)).0 in
+    let grows = grown g.L.Lines.tells ports-mid ports' (λ tells. (c.in-IsOver.ensures.ports.told tells (apart-mid tells)).1)
+    (λ untold. c.next_line.ensures.still reads untold (record_in ports-mid.told) (next (record_in ports-mid.told) (first-same (record_in ports-mid.told)))) in
+    let back = first-through (record_in ports-mid.told) (record_in ports'.told) whole grows begins in
     over (λ notes. beginning c.args.session.now (beyond (g.F.Files.state c.args.files.now).files ports whole) c.args.opening.now (g.C.Source.left c.args.input.now) notes)
     (session_of c.lines.session (beyond (g.F.Files.state c.lines.files).files ports-mid whole) c.lines.texts (g.C.Source.left c.lines.input))
     (session_of c.next_line.new.session (beyond (g.F.Files.state c.next_line.new.files).files ports' whole) c.next_line.new.lines (g.C.Source.left c.next_line.new.input) [])
     c.in-IsOver.finish (output (g.S.Sink.written c.args.out.now) ports.sent) (output (g.S.Sink.written c.lines.out) ports-mid.sent) (output (g.S.Sink.written c.next_line.new.out) ports'.sent)
     (notes_said c.args.session.now.notes) (notes_said c.lines.session.notes) (notes_said c.next_line.new.session.notes)
-    (c.lines.invariant.told enough source files telling apart sink whole (first-through (record_in ports-mid.told) (record_in ports'.told) whole more.1 begins))
-    (c.in-IsOver.ensures.told (omega (arith, enough, c.lines.invariant.command, c.lines.invariant.paid)) (λ on. source (sym c.lines.invariant.reads ∙ on)) files telling there.0 sink whole begins)
+    (so_far whole back)
+    (c.in-IsOver.ensures.told (omega (arith, enough, c.lines.invariant.command, c.lines.invariant.paid)) reads apart-mid sink whole begins (next whole back))
 
 pub returns-in-IsOver-clause-lines : goal.returns-in-IsOver-clause-lines
 returns-in-IsOver-clause-lines g c =
@@ -167,7 +187,7 @@ returns-in-IsOver-clause-kept g c =
 
 pub returns-in_default-clause-told : goal.returns-in_default-clause-told
 unfolding beginning beginning_with
-returns-in_default-clause-told g c = λ enough source files telling apart sink whole begins.
+returns-in_default-clause-told g c = λ enough source used apart sink whole begins.
     let ports = g.L.Lines.state c.args.lines.now in
     never-begun (λ notes. beginning c.args.session.now (beyond (g.F.Files.state c.args.files.now).files ports whole) c.args.opening.now (g.C.Source.left c.args.input.now) notes)
     (output (g.S.Sink.written c.args.out.now) ports.sent) (notes_said c.args.session.now.notes) refl

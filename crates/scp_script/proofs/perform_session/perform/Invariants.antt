@@ -13,6 +13,7 @@ use Rattle.command_session.specs.LinesLeft.{LinesLeft}
 use Rattle.scp_script.specs.Session.{spent_more}
 use Rattle.scp_script.specs.Perform.{beginning}
 use Rattle.scp_script.specs.Loop.{AreKept, NumbersSuffice, session_of}
+use Rattle.scp_script.specs.Used.{CourseTold}
 use Rattle.scp_script.proofs.WholeLemmas.{ComesSoFar}
 use Rattle.scp_script.proofs.perform_session.perform.Given as goal
 
@@ -24,8 +25,10 @@ invariant-lines g l = record {
   keys : l.session.keys ≡ l.fn.session.keys;
   reads : l.texts.reads ≡ l.fn.opening.reads;
   unread : l.fn.opening.reads ≡ false → l.input ≡ l.fn.input;
-  told : NumbersSuffice l.fn.session.command l.fn.opening.budget → (l.fn.opening.reads ≡ true → IsTrue g.C.Source.tells) → IsTrue g.F.Files.tells
-      → IsTrue g.L.Lines.tells → AreApart (g.L.Lines.state l.fn.lines) l.fn.session.machine.lines → IsTrue g.S.Sink.tells
+  told : NumbersSuffice l.fn.session.command l.fn.opening.budget → (l.fn.opening.reads ≡ true → IsTrue g.C.Source.tells)
+      → CourseTold g.F.Files.tells g.L.Lines.tells
+      (λ whole notes. beginning l.fn.session (beyond (g.F.Files.state l.fn.files).files (g.L.Lines.state l.fn.lines) whole) l.fn.opening (g.C.Source.left l.fn.input) notes)
+      → (IsTrue g.L.Lines.tells → AreApart (g.L.Lines.state l.fn.lines) l.fn.session.machine.lines) → IsTrue g.S.Sink.tells
       → (whole : List Answer) → IsFirst (record_in (g.L.Lines.state l.lines).told) whole → ComesSoFar
       (λ notes. beginning l.fn.session (beyond (g.F.Files.state l.fn.files).files (g.L.Lines.state l.fn.lines) whole) l.fn.opening (g.C.Source.left l.fn.input) notes)
       (session_of l.session (beyond (g.F.Files.state l.files).files (g.L.Lines.state l.lines) whole) l.texts (g.C.Source.left l.input))
