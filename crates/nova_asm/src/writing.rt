@@ -155,14 +155,14 @@ fn assembled(alloc: Global, source: &[u8]) -> Result<Assembled, AsmFault>
     second_reading(alloc, &labels, source)
 }
 
-/// Assembles a source of at most 1048576 bytes to a loader tape: its words at their addresses, in the order of the source,
-/// in data blocks of at most 16 words, of which each `.LOC` begins a new one, and a start block.
+/// Assembles a source of at most 1048576 bytes to a loader tape: its words at their addresses, in the order of the
+/// source, in data blocks of at most 16 words, of which each `.LOC` begins a new one, and a start block.
 ///
-/// Its lines are read twice, and the first fault of the first reading that has one is answered, with its line, from 1 on.
-/// The first reading has `BadLine` where a line has none of the forms, `SameLabel` where its label stands on an earlier
-/// line, and `PastMemory` where a word would stand at 32768 or above, in this order; the second one `NoLabel` where a
-/// label is missing, and `OutOfReach` where a value is 32768 or above or can't be reached. `OutOfMemory` may come at any
-/// line. Nothing is left behind a fault.
+/// Its lines are read twice, and the first fault of the first reading that has one is answered, with its line, from 1
+/// on. The first reading has `BadLine` where a line has none of the forms, `SameLabel` where its label stands on an
+/// earlier line, and `PastMemory` where a word would stand at 32768 or above, in this order; the second one `NoLabel`
+/// where a label is missing, and `OutOfReach` where a value is 32768 or above or can't be reached. `OutOfMemory` may
+/// come at any line. Nothing is left behind a fault.
 pub fn assemble(alloc: Global, source: &[u8]) -> Result<Assembled, AsmFault>
     requires { length source.now ≤ 1048576 }
     // The tape says the stores of the source and its start, or the fault is that of the source.

@@ -19,8 +19,8 @@ pub struct ReferenceFront<'a> {
     pub address: &'a [u8],
 }
 
-/// The memory reference that a text begins with. `None` comes exactly where it begins with no name of a memory reference,
-/// or with one of a load or a store and without an accumulator and a comma behind that.
+/// The memory reference that a text begins with. `None` comes exactly where it begins with no name of a memory
+/// reference, or with one of a load or a store and without an accumulator and a comma behind that.
 #[tactic(auto, unfolding(crate::specs::Reference::reference_at))]
 pub fn reference_at(text: &[u8]) -> Option<ReferenceFront<'_>>
     ensures front { option_map (λ r. record { word = r.word; address = r.address.now }) result ≡ reference_at text.now }

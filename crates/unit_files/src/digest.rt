@@ -61,8 +61,8 @@ impl Attached {
     }
 
     /// The same of the file as it stands there: nothing is written back, and what the disk holds beside its file is not
-    /// in it. `NotAttached` comes exactly where nothing is attached, and `Failed` where the length or a read failed. All
-    /// stays as it is.
+    /// in it. `NotAttached` comes exactly where nothing is attached, and `Failed` where the length or a read failed.
+    /// All stays as it is.
     pub fn digest_unflushed<F: Files>(
         &self,
         unit: UnitName,
