@@ -18,6 +18,8 @@ use Rattle.scp_script.proofs.UndoneLemmas.{says, short-notes, refused-short}
 use Rattle.scp_script.proofs.PortLemmas.{IsUnasked, still-seen, live-still}
 use Rattle.scp_script.proofs.NoteLemmas.{never-short}
 use Rattle.scp_script.proofs.RoomLemmas.{room-next}
+use Rattle.command_session.specs.Doing.{is_restore, attaches_file}
+use Rattle.scp_script.proofs.WholeLemmas.{kept-by}
 use Rattle.scp_script.proofs.answers.obey.Goals as goal
 
 pub returns-then-is_too_deep-clause-told : goal.returns-then-is_too_deep-clause-told
@@ -131,3 +133,15 @@ returns-then-is_too_deep-clause-lines g c = left-same g.L.Lines.tells (g.L.Lines
 
 pub returns-in_default-clause-lines : goal.returns-in_default-clause-lines
 returns-in_default-clause-lines g c = left-same g.L.Lines.tells (g.L.Lines.state c.args.lines.now) c.args.session.now.machine.lines
+
+-- ---- the notes
+
+pub returns-clause-keeps : goal.returns-clause-keeps
+returns-clause-keeps g c =
+    kept-by (is_restore c.args.command.now) (attaches_file c.args.command.now) c.args.session.now.command c.args.session.now.machine.time c.execute.new.session.machine.time g.F.Files.tells c.execute.result
+    c.args.session.now.notes c.execute.new.session.notes (g.F.Files.state c.args.files.now) (g.F.Files.state c.execute.new.files) c.execute.ensures.keeps
+
+pub returns-in-Err-clause-keeps : goal.returns-in-Err-clause-keeps
+returns-in-Err-clause-keeps g c =
+    kept-by (is_restore c.args.command.now) (attaches_file c.args.command.now) c.args.session.now.command c.args.session.now.machine.time c.execute.new.session.machine.time g.F.Files.tells c.execute.result
+    c.args.session.now.notes c.execute.new.session.notes (g.F.Files.state c.args.files.now) (g.F.Files.state c.execute.new.files) c.execute.ensures.keeps

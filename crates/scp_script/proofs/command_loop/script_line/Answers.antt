@@ -205,3 +205,9 @@ returns-in-Err-clause-keeps g c =
     let files = g.F.Files.state c.args.files.now in
     let notes = c.args.session.now.notes in
     subst (λ (x : CommandState). AreKept notes x.notes files files) (sym c.pay.ensures.rest) (kept-none notes files)
+
+pub returns-then-not-pay-clause-keeps : goal.returns-then-not-pay-clause-keeps
+returns-then-not-pay-clause-keeps g c =
+    let notes = c.args.session.now.notes in
+    let files = g.F.Files.state c.args.files.now in
+    subst (λ (x : CommandState). AreKept notes x.notes files files) (sym c.pay.ensures.rest) (kept-none notes files)
