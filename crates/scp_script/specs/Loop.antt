@@ -1,6 +1,6 @@
 -- What the calls of the loop over texts come to, for a console that had and has these bytes, callers of lines that had and
 -- have heard these, and an input that let so many reads through.
-use Rattle.std.specs.Prelude.{◌≡◌, ◌≢◌, ◌⊎◌, ℕ, ◌+◌, ◌^◌, ◌<◌, ◌≤◌, Bool, IsTrue, List, [], ◌++◌, length, Option, Some, None, Ok}
+use Rattle.std.specs.Prelude.{◌≡◌, ◌≢◌, ◌⊎◌, ℕ, ◌+◌, ◌^◌, ◌<◌, ◌≤◌, Bool, IsTrue, List, [], ◌++◌, length, Option, Some, None, Ok, true}
 use Rattle.std.specs.List.{AllByRecursion}
 use Rattle.fault_counts.specs.Faults.{raised}
 use Rattle.file_traits.specs.declared.files.FileCall.TheVariants.{Closing}
@@ -22,7 +22,7 @@ use Rattle.unit_files.specs.Attachments.{Held}
 use Rattle.file_commands.specs.declared.note.Subject.{Subject}
 use Rattle.file_commands.specs.declared.note.FaultNote.{FaultNote}
 use Rattle.file_commands.specs.Notes.{CommandNote, Note, numbered, Follow}
-use Rattle.file_commands.specs.Counts.{AreCounted}
+use Rattle.file_commands.specs.Counts.{AreCounted, AreExact}
 use Rattle.command_session.specs.Live.{Live, Standing, CommandState, Beyond, live_in}
 use Rattle.nova_machine.specs.Comes.{Output}
 use Rattle.nova_machine.specs.LineChanges.{heard_with}
@@ -257,11 +257,18 @@ pub record Stepped (old : List Note → Session) (p : Progress) (new : List Note
   pub first : (more : List Note) → MayCome p (new []).spent (new []).live more → MayFollow (old []).spent (old []).live (own ++ more)
   pub goes : (more : List Note) → MayCome p (new []).spent (new []).live more → Progresses (old (own ++ more)) p (new more) before after
 
--- the notes that were kept are at most as many as the counts rose
-pub record AreKept (notes notes' : List FaultNote) (old new : FileState) : Type 0 where
+-- The notes that were kept are those of calls that failed: for each file there are just as many as its count rose, but where
+-- files may be given back for such as were opened in between, whose closings then have none; and of openings there are at
+-- most as many.
+pub record KeptAs (gives_back : Bool) (notes notes' : List FaultNote) (old new : FileState) : Type 0 where
   pub kept : List FaultNote
   pub added : notes' ≡ notes ++ kept
   pub counted : AreCounted kept old new
+  pub exact : AreExact gives_back kept old new
+
+-- the same of a session, whose commands may give files back
+abbrev pub AreKept : List FaultNote → List FaultNote → FileState → FileState → Type 0
+AreKept notes notes' old new = KeptAs true notes notes' old new
 
 -- Each finish has its cause: the console's count rose by one where it failed, and stood still else, and so did the
 -- input's.

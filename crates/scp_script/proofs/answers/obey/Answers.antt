@@ -20,6 +20,8 @@ use Rattle.scp_script.proofs.UndoneLemmas.{says, short-notes, refused-short}
 use Rattle.scp_script.proofs.PortLemmas.{IsUnasked, still-seen, live-still}
 use Rattle.scp_script.proofs.NoteLemmas.{never-short}
 use Rattle.scp_script.proofs.RoomLemmas.{room-next}
+use Rattle.command_session.specs.Doing.{is_restore, attaches_file}
+use Rattle.scp_script.proofs.WholeLemmas.{kept-by}
 use Rattle.scp_script.proofs.answers.obey.Goals as goal
 
 pub returns-then-is_too_deep-clause-told : goal.returns-then-is_too_deep-clause-told
@@ -150,3 +152,15 @@ returns-in-Err-clause-still g c = λ used untold.
     let known = as-command g.F.Files.tells g.L.Lines.tells m c.args.texts.now.scripts c.args.command.now (c.is_too_deep.ensures.fits c.if-is_too_deep.false) used in
     still-lines g.L.Lines.tells (Err c.in-Err.fault) (g.L.Lines.state c.args.lines.now) (g.L.Lines.state c.execute.new.lines) m.lines c.execute.new.session.machine.lines untold c.args.command.now known.1
     (λ refused never. ap (λ l. g.L.Lines.state l) (c.in-Err.ensures.unasked refused never)) c.in-Err.ensures.line
+
+-- ---- the notes
+
+pub returns-clause-keeps : goal.returns-clause-keeps
+returns-clause-keeps g c =
+    kept-by (is_restore c.args.command.now) (attaches_file c.args.command.now) c.args.session.now.command c.args.session.now.machine.time c.execute.new.session.machine.time g.F.Files.tells c.execute.result
+    c.args.session.now.notes c.execute.new.session.notes (g.F.Files.state c.args.files.now) (g.F.Files.state c.execute.new.files) c.execute.ensures.keeps
+
+pub returns-in-Err-clause-keeps : goal.returns-in-Err-clause-keeps
+returns-in-Err-clause-keeps g c =
+    kept-by (is_restore c.args.command.now) (attaches_file c.args.command.now) c.args.session.now.command c.args.session.now.machine.time c.execute.new.session.machine.time g.F.Files.tells c.execute.result
+    c.args.session.now.notes c.execute.new.session.notes (g.F.Files.state c.args.files.now) (g.F.Files.state c.execute.new.files) c.execute.ensures.keeps

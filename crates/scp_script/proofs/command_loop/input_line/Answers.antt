@@ -16,7 +16,11 @@ use Rattle.scp_script.specs.declared.progress.Progress.TheVariants.{IsOver}
 use Rattle.scp_script.specs.declared.progress.Finish.TheVariants.{Commands, Console, Input}
 use Rattle.scp_script.specs.Scripts.{checked}
 use Rattle.scp_script.specs.Actions.{Texts, texts_of}
-use Rattle.scp_script.specs.Loop.{IsShort, Answers, coming, session_of}
+use Rattle.file_commands.specs.AllUnits.{keeper}
+use Rattle.command_session.specs.declared.next.Next.TheVariants.{Go}
+use Rattle.command_session.specs.FileEffects.{kept_answer}
+use Rattle.scp_script.proofs.WholeLemmas.{kept-last, kept-none}
+use Rattle.scp_script.specs.Loop.{IsShort, Answers, AreKept, coming, session_of}
 use Rattle.scp_script.proofs.TextLemmas.{answers-none}
 use Rattle.scp_script.proofs.LineLemmas.{none-read, prompt-refused, budget-spent, input-failed}
 use Rattle.scp_script.proofs.NoteLemmas.{line-stepped, over-alone, input-closed, left-at, never-short, spent-line, answer-kept}
@@ -281,3 +285,23 @@ returns-in-Ok-detach_all-clause-still g c = λ source untold whole next.
 
 pub returns-in-Err-detach_all-clause-still : goal.returns-in-Err-detach_all-clause-still
 returns-in-Err-detach_all-clause-still g c = λ source untold whole next. ap (λ l. g.L.Lines.state l) c.in-Err-detach_all.ensures.unasked
+
+-- ---- the notes
+
+pub returns-in-Ok-detach_all-clause-keeps : goal.returns-in-Ok-detach_all-clause-keeps
+returns-in-Ok-detach_all-clause-keeps g c =
+    subst (λ (x : CommandState). AreKept x.notes c.detach_all.new.self.notes (g.F.Files.state c.args.files.now) (g.F.Files.state c.detach_all.new.files)) c.read_paid.ensures.rest
+    (kept-last c.read_paid.new.session.command c.detach_all.new.self.machine.time g.F.Files.tells (kept_answer (keeper c.detach_all.result) Go) c.read_paid.new.session.notes c.detach_all.new.self.notes
+    (g.F.Files.state c.args.files.now) (g.F.Files.state c.detach_all.new.files) c.detach_all.ensures.keeps)
+
+pub returns-in-Err-detach_all-clause-keeps : goal.returns-in-Err-detach_all-clause-keeps
+returns-in-Err-detach_all-clause-keeps g c =
+    subst (λ (x : CommandState). AreKept x.notes c.detach_all.new.self.notes (g.F.Files.state c.args.files.now) (g.F.Files.state c.detach_all.new.files)) c.read_paid.ensures.rest
+    (kept-last c.read_paid.new.session.command c.detach_all.new.self.machine.time g.F.Files.tells (kept_answer (keeper c.detach_all.result) Go) c.read_paid.new.session.notes c.detach_all.new.self.notes
+    (g.F.Files.state c.args.files.now) (g.F.Files.state c.detach_all.new.files) c.detach_all.ensures.keeps)
+
+pub returns-in-TooLong-clause-keeps : goal.returns-in-TooLong-clause-keeps
+returns-in-TooLong-clause-keeps g c =
+    let notes = c.args.session.now.notes in
+    let files = g.F.Files.state c.args.files.now in
+    subst (λ (x : CommandState). AreKept notes x.notes files files) (sym c.read_paid.ensures.rest) (kept-none notes files)

@@ -226,3 +226,9 @@ returns-in-Some-clause-still g c = λ untold whole input next.
     c.answer.ensures.still
     (script-used g.F.Files.tells g.L.Lines.tells session paid named lines script outer input c.as_slice.result.now c.push.new.self (ap (λ (x : CommandState). x.machine) c.pay.ensures.rest) there c.requires.line fits pushed line next)
     untold
+
+pub returns-then-not-pay-clause-keeps : goal.returns-then-not-pay-clause-keeps
+returns-then-not-pay-clause-keeps g c =
+    let notes = c.args.session.now.notes in
+    let files = g.F.Files.state c.args.files.now in
+    subst (λ (x : CommandState). AreKept notes x.notes files files) (sym c.pay.ensures.rest) (kept-none notes files)
