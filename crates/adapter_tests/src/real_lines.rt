@@ -144,18 +144,16 @@ fn fills<N: Net>(lines: &mut RealLines<'_, N>, conn: ConnId) -> Option<usize> {
     None
 }
 
-/// How many bytes come to the peer until there are that many, or for a while none.
+/// How many bytes come to the peer within a while, or until there are that many.
 fn drained(peer: &mut TcpStream, most: usize) -> usize {
     let mut buf = [0; 4096];
     let mut count = 0usize;
-    let mut idle = 0u32;
-    while count < most && idle < 100_000 {
-        match peer.read(&mut buf) {
-            Ok(some) if some > 0 => {
-                count = count.saturating_add(some);
-                idle = 0;
-            }
-            _ => idle += 1,
+    for _ in 0..200_000u64 {
+        if count >= most {
+            return count;
+        }
+        if let Ok(some) = peer.read(&mut buf) {
+            count = count.saturating_add(some);
         }
     }
     count

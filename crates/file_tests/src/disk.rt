@@ -199,7 +199,7 @@ pub fn count_of(bytes: &[u8], wanted: u8) -> usize {
 }
 
 /// The image has so many bytes, so many of 1, and so many of 7.
-fn image_left(rt: &impl Abort, files: &MemFiles, counts: &str, line: &str) {
+pub fn image_left(rt: &impl Abort, files: &MemFiles, counts: &str, line: &str) {
     match files.file_bytes("d") {
         Some(bytes) => {
             let found = [bytes.len(), count_of(bytes, 1), count_of(bytes, 7)];

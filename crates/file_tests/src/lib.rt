@@ -22,6 +22,8 @@ mod notes;
 #[cfg(test)]
 mod pages;
 #[cfg(test)]
+mod pieces;
+#[cfg(test)]
 mod piecewise;
 #[cfg(test)]
 mod streams;
