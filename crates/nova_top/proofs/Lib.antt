@@ -5,5 +5,6 @@ pub mod ReadingLemmas
 pub mod UnreadLemmas
 pub mod PortLemmas
 pub mod ProgramLemmas
+pub mod UsedLemmas
 pub mod ValidProgram
 pub mod ResumptionLemmas

@@ -102,16 +102,16 @@ follows words options keys script files ahead input own h =
 
 -- A session that is begun: with a new machine, in whose memory a workload may be, with nothing watched, with keys and a script of which the notes so far are all that was used, and
 -- opened as the words say.
-pub record Begun (tells : Bool) (words : List (List ℕ)) (options : Options) (s : CommandState) (o : Opening) (old new : FileState) : Type 0 where
+pub record Begun (Told : Type 0) (words : List (List ℕ)) (options : Options) (s : CommandState) (o : Opening) (old new : FileState) : Type 0 where
   pub command : s.command ≡ 0
   pub limit : s.limit ≡ options.limit
   pub machine : s.machine ≡ with_workload options.workload (new_machine standard_units)
   pub watch : s.watch ≡ empty_watch
   pub open_ : AllOpen s.machine.slots new.opened
   pub around : Around s.machine.slots old.opened new.opened
-  pub files : IsTrue tells → new.files ≡ old.files
+  pub files : Told → new.files ≡ old.files
   pub opens : OpensAs words options o
-  pub starts : IsTrue tells → StartsWith words options old.files (notes_said s.notes) (Begins options s.keys (script_text o))
+  pub starts : Told → StartsWith words options old.files (notes_said s.notes) (Begins options s.keys (script_text o))
   pub keeps : AreKept [] s.notes old new
 
 -- a session as it was made
@@ -131,11 +131,11 @@ workload-slots None m = refl
 workload-slots (Some number) m = refl
 
 -- with what the files of the words say, and its workload
-pub begun-files : (tells : Bool) (words : List (List ℕ)) (options : Options) (units : List UnitState) (i s : CommandState) (m : MachineState) (keys : List Key) (o : Opening) (notes : List FaultNote) (spare : ℕ) (old new : FileState)
-    → Made units options s → i ≡ s → m ≡ with_workload options.workload i.machine → (IsTrue tells → StartsWith words options old.files (notes_said notes) (Begins options keys (script_text o))) → OpensAs words options o
-    → (IsTrue tells → new.files ≡ old.files) → new.opened ≡ old.opened → AreKept [] notes old new
-    → Begun tells words options (record { machine = m; watch = i.watch; keys = keys; limit = i.limit; notes = notes; command = i.command; spare = spare }) o old new
-begun-files tells words options units i s m keys o notes spare old new made same filled starts opens files opened keeps =
+pub begun-files : (Told : Type 0) (words : List (List ℕ)) (options : Options) (units : List UnitState) (i s : CommandState) (m : MachineState) (keys : List Key) (o : Opening) (notes : List FaultNote) (spare : ℕ) (old new : FileState)
+    → Made units options s → i ≡ s → m ≡ with_workload options.workload i.machine → (Told → StartsWith words options old.files (notes_said notes) (Begins options keys (script_text o))) → OpensAs words options o
+    → (Told → new.files ≡ old.files) → new.opened ≡ old.opened → AreKept [] notes old new
+    → Begun Told words options (record { machine = m; watch = i.watch; keys = keys; limit = i.limit; notes = notes; command = i.command; spare = spare }) o old new
+begun-files Told words options units i s m keys o notes spare old new made same filled starts opens files opened keeps =
     let whole : m ≡ with_workload options.workload s.machine = filled ∙ ap (λ (u : CommandState). with_workload options.workload u.machine) same in
     let slots : s.machine.slots ≡ m.slots = sym (workload-slots options.workload s.machine) ∙ ap (λ (x : MachineState). x.slots) (sym whole) in
     record {
@@ -164,15 +164,15 @@ unfolding new_machine reset_machine reset_devices
 one-line None = refl
 one-line (Some number) = refl
 
-pub begun-line : (tells : Bool) (words : List (List ℕ)) (options : Options) (s : CommandState) (o : Opening) (old mid : FileState) → Begun tells words options s o old mid
+pub begun-line : (Told : Type 0) (words : List (List ℕ)) (options : Options) (s : CommandState) (o : Opening) (old mid : FileState) → Begun Told words options s o old mid
     → s.machine.lines ≡ unconnected None ∷ []
-begun-line tells words options s o old mid begun = ap (λ (m : MachineState). m.lines) begun.machine ∙ one-line options.workload
+begun-line Told words options s o old mid begun = ap (λ (m : MachineState). m.lines) begun.machine ∙ one-line options.workload
 
-same-start : (tells : Bool) (words : List (List ℕ)) (options : Options) (s : CommandState) (o : Opening) (old mid : FileState) (lines : LineState) (whole : List LineAnswer) (input : List ℕ) (notes : List Note)
-    → Begun tells words options s o old mid → IsTrue tells
+pub same-start : (Told : Type 0) (words : List (List ℕ)) (options : Options) (s : CommandState) (o : Opening) (old mid : FileState) (lines : LineState) (whole : List LineAnswer) (input : List ℕ) (notes : List Note)
+    → Begun Told words options s o old mid → Told
     → beginning s (beyond mid.files lines whole) o input notes ≡ opening words options s.keys (script_text o) old.files (ahead_of lines.told whole) input notes
 unfolding beginning beginning_with session_with
-same-start tells words options s o old mid lines whole input notes begun told =
+same-start Told words options s o old mid lines whole input notes begun told =
     let seen_lines = ap (λ (m : MachineState). map (seen_line lines) m.lines) begun.machine ∙ first-lines options.workload lines in
     λ i. record {
       live = record {
@@ -228,13 +228,13 @@ performed-short start Input live left before after small s h = absurd (omega (ar
 performed-short start OutOfMemory live left before after small s h = h
 
 -- the session that was begun is the one that the definition opens
-at-opening : (tells : Bool) (words : List (List ℕ)) (options : Options) (s : CommandState) (o : Opening) (old mid : FileState) (lines : LineState) (whole : List LineAnswer) (input left : List ℕ) (before after : Output) (finish : Finish) (live : Live) (notes' : List Note)
-    → Begun tells words options s o old mid → IsTrue tells
+at-opening : (Told : Type 0) (words : List (List ℕ)) (options : Options) (s : CommandState) (o : Opening) (old mid : FileState) (lines : LineState) (whole : List LineAnswer) (input left : List ℕ) (before after : Output) (finish : Finish) (live : Live) (notes' : List Note)
+    → Begun Told words options s o old mid → Told
     → Performed (λ (n : List Note). beginning s (beyond mid.files lines whole) o input n) finish live left before after (notes_said s.notes) notes'
     → Performed (λ (n : List Note). opening words options s.keys (script_text o) old.files (ahead_of lines.told whole) input n) finish live left before after (notes_said s.notes) notes'
-at-opening tells words options s o old mid lines whole input left before after finish live notes' begun told p =
+at-opening Told words options s o old mid lines whole input left before after finish live notes' begun told p =
     let by_start : (List Note → Session) → Type 0 = λ start. Performed start finish live left before after (notes_said s.notes) notes' in
-    subst by_start (λ i (n : List Note). same-start tells words options s o old mid lines whole input n begun told i) p
+    subst by_start (λ i (n : List Note). same-start Told words options s o old mid lines whole input n begun told i) p
 
 -- What a session came to that was begun with those files, and with what stands around it, to what stands around it now.
 abbrev pub CameTo : CommandState → Opening → FileState → Beyond → Beyond → List ℕ → List ℕ → List ℕ → List ℕ → Finish → WatchState → MachineState → List Note → Type 0
@@ -242,15 +242,15 @@ CameTo s o mid old new input left before after finish watch now notes' =
     Performed (λ (n : List Note). beginning s (beyond mid.files old.lines old.whole) o input n) finish (seen (beside watch s.keys new.files new.lines) new.whole now) left
     (output before old.lines.sent) (output after new.lines.sent) (notes_said s.notes) notes'
 
-pub performed-outcome : (tells : Bool) (words : List (List ℕ)) (options : Options) (s : CommandState) (o : Opening) (was mid : FileState) (lines : LineState) (whole : List LineAnswer) (new : Beyond) (input left before after : List ℕ) (finish : Finish) (watch : WatchState) (now : MachineState) (notes' : List Note)
-    → options_of words ≡ Some options → Begun tells words options s o was mid → IsTrue tells → IsExitStatus finish → status_of finish ≢ 103
+pub performed-outcome : (Told : Type 0) (words : List (List ℕ)) (options : Options) (s : CommandState) (o : Opening) (was mid : FileState) (lines : LineState) (whole : List LineAnswer) (new : Beyond) (input left before after : List ℕ) (finish : Finish) (watch : WatchState) (now : MachineState) (notes' : List Note)
+    → options_of words ≡ Some options → Begun Told words options s o was mid → Told → IsExitStatus finish → status_of finish ≢ 103
     → CameTo s o mid (beyond was.files lines whole) new input left before after finish watch now notes'
     → IsOutcome words input left before after (beyond was.files lines whole) new (status_of finish) (Some now) notes'
-performed-outcome tells words options s o was mid lines whole new input left before after finish watch now notes' chosen begun told small other came =
+performed-outcome Told words options s o was mid lines whole new input left before after finish watch now notes' chosen begun told small other came =
     let old = beyond was.files lines whole in
     let ahead = ahead_of lines.told whole in
     let live = seen (beside watch s.keys new.files new.lines) new.whole now in
-    let p = at-opening tells words options s o was mid lines whole input left (output before lines.sent) (output after new.lines.sent) finish live notes' begun told came in
+    let p = at-opening Told words options s o was mid lines whole input left (output before lines.sent) (output after new.lines.sent) finish live notes' begun told came in
     let follow = follows words options s.keys (script_text o) was.files ahead input p.own p.first in
     let start = ap (λ (c : Option Options). start_of c words was.files (notes_said s.notes ++ p.own)) chosen ∙ begun.starts told p.own follow in
     let session = performed-session (opening words options s.keys (script_text o) was.files ahead input p.own) finish live left (output before lines.sent) (output after new.lines.sent) other p.is in
@@ -258,15 +258,15 @@ performed-outcome tells words options s o was mid lines whole new input left bef
     (session-outcome words options s.keys s.keys (script_text o) input left before after old new finish watch now (notes_said s.notes ++ p.own) p.own (length (notes_said s.notes)) start
     (drop-append_seam (notes_said s.notes) p.own) small session)
 
-pub performed-cut : (tells : Bool) (words : List (List ℕ)) (options : Options) (s : CommandState) (o : Opening) (was mid : FileState) (lines : LineState) (whole : List LineAnswer) (new : Beyond) (input left before after : List ℕ) (finish : Finish) (watch : WatchState) (now : MachineState) (notes' : List Note)
-    → options_of words ≡ Some options → Begun tells words options s o was mid → IsTrue tells → IsExitStatus finish → status_of finish ≡ 103
+pub performed-cut : (Told : Type 0) (words : List (List ℕ)) (options : Options) (s : CommandState) (o : Opening) (was mid : FileState) (lines : LineState) (whole : List LineAnswer) (new : Beyond) (input left before after : List ℕ) (finish : Finish) (watch : WatchState) (now : MachineState) (notes' : List Note)
+    → options_of words ≡ Some options → Begun Told words options s o was mid → Told → IsExitStatus finish → status_of finish ≡ 103
     → CameTo s o mid (beyond was.files lines whole) new input left before after finish watch now notes'
     → IsCutShort words input left before after (beyond was.files lines whole) new (Some now) notes'
-performed-cut tells words options s o was mid lines whole new input left before after finish watch now notes' chosen begun told small memory came =
+performed-cut Told words options s o was mid lines whole new input left before after finish watch now notes' chosen begun told small memory came =
     let old = beyond was.files lines whole in
     let ahead = ahead_of lines.told whole in
     let live = seen (beside watch s.keys new.files new.lines) new.whole now in
-    let p = at-opening tells words options s o was mid lines whole input left (output before lines.sent) (output after new.lines.sent) finish live notes' begun told came in
+    let p = at-opening Told words options s o was mid lines whole input left (output before lines.sent) (output after new.lines.sent) finish live notes' begun told came in
     let follow = follows words options s.keys (script_text o) was.files ahead input p.own p.first in
     let short = performed-short (opening words options s.keys (script_text o) was.files ahead input p.own) finish live left (output before lines.sent) (output after new.lines.sent) small memory p.is in
     subst (λ (n : List Note). IsCutShort words input left before after old new (Some now) n) (sym p.kept)
@@ -286,23 +286,23 @@ performed-cut tells words options s o was mid lines whole new input left before 
     })
 
 -- the same at the names of the code
-pub session-answer : (tells : Bool) (words : List (List ℕ)) (options : Options) (s : CommandState) (o : Opening) (was mid : FileState) (lines : LineState) (whole : List LineAnswer) (new : Beyond) (input left before after : List ℕ) (finish : Finish) (watch : WatchState) (now : MachineState) (status : ℕ) (machine : Option MachineState) (notes' : List Note)
-    → options_of words ≡ Some options → Begun tells words options s o was mid → IsTrue tells → IsExitStatus finish → status ≡ status_of finish → machine ≡ Some now → status ≢ 103
+pub session-answer : (Told : Type 0) (words : List (List ℕ)) (options : Options) (s : CommandState) (o : Opening) (was mid : FileState) (lines : LineState) (whole : List LineAnswer) (new : Beyond) (input left before after : List ℕ) (finish : Finish) (watch : WatchState) (now : MachineState) (status : ℕ) (machine : Option MachineState) (notes' : List Note)
+    → options_of words ≡ Some options → Begun Told words options s o was mid → Told → IsExitStatus finish → status ≡ status_of finish → machine ≡ Some now → status ≢ 103
     → CameTo s o mid (beyond was.files lines whole) new input left before after finish watch now notes'
     → IsOutcome words input left before after (beyond was.files lines whole) new status machine notes'
-session-answer tells words options s o was mid lines whole new input left before after finish watch now status machine notes' chosen begun told small is there other came =
+session-answer Told words options s o was mid lines whole new input left before after finish watch now status machine notes' chosen begun told small is there other came =
     let old = beyond was.files lines whole in
     subst (λ (m : Option MachineState). IsOutcome words input left before after old new status m notes') (sym there)
     (subst (λ (n : ℕ). IsOutcome words input left before after old new n (Some now) notes') (sym is)
-    (performed-outcome tells words options s o was mid lines whole new input left before after finish watch now notes' chosen begun told small (λ e. other (is ∙ e)) came))
+    (performed-outcome Told words options s o was mid lines whole new input left before after finish watch now notes' chosen begun told small (λ e. other (is ∙ e)) came))
 
-pub memory-answer : (tells : Bool) (words : List (List ℕ)) (options : Options) (s : CommandState) (o : Opening) (was mid : FileState) (lines : LineState) (whole : List LineAnswer) (new : Beyond) (input left before after : List ℕ) (finish : Finish) (watch : WatchState) (now : MachineState) (status : ℕ) (machine : Option MachineState) (notes' : List Note)
-    → options_of words ≡ Some options → Begun tells words options s o was mid → IsTrue tells → IsExitStatus finish → status ≡ status_of finish → machine ≡ Some now → status ≡ 103
+pub memory-answer : (Told : Type 0) (words : List (List ℕ)) (options : Options) (s : CommandState) (o : Opening) (was mid : FileState) (lines : LineState) (whole : List LineAnswer) (new : Beyond) (input left before after : List ℕ) (finish : Finish) (watch : WatchState) (now : MachineState) (status : ℕ) (machine : Option MachineState) (notes' : List Note)
+    → options_of words ≡ Some options → Begun Told words options s o was mid → Told → IsExitStatus finish → status ≡ status_of finish → machine ≡ Some now → status ≡ 103
     → CameTo s o mid (beyond was.files lines whole) new input left before after finish watch now notes'
     → IsCutShort words input left before after (beyond was.files lines whole) new machine notes'
-memory-answer tells words options s o was mid lines whole new input left before after finish watch now status machine notes' chosen begun told small is there memory came =
+memory-answer Told words options s o was mid lines whole new input left before after finish watch now status machine notes' chosen begun told small is there memory came =
     subst (λ (m : Option MachineState). IsCutShort words input left before after (beyond was.files lines whole) new m notes') (sym there)
-    (performed-cut tells words options s o was mid lines whole new input left before after finish watch now notes' chosen begun told small (sym is ∙ memory) came)
+    (performed-cut Told words options s o was mid lines whole new input left before after finish watch now notes' chosen begun told small (sym is ∙ memory) came)
 
 -- ---- causes
 

@@ -6,3 +6,4 @@ pub mod Program
 pub mod Unread
 pub mod ValidLaws
 pub mod Resumption
+pub mod Used

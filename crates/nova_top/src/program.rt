@@ -19,6 +19,7 @@ ghost use Rattle.state_file.specs.SavedValid.{AreStandard};
 ghost use Rattle.command_session.specs.Live.{beyond};
 ghost use Rattle.scp_script.specs.Loop.{FinishCause, AreKept};
 ghost use Rattle.scp_script.specs.Perform.{beginning, Performed};
+ghost use Rattle.scp_script.specs.Used.{CourseTold};
 ghost use Rattle.command_words.specs.Standard.{IsStandard};
 ghost use Rattle.command_words.specs.Words.{texts_of};
 ghost use Rattle.nova_top.specs.Outside.{usage_text, unopened_text, bad_keys_text};
@@ -29,6 +30,7 @@ ghost use Rattle.nova_top.specs.Program.{IsRefused, RefusedCause, RefusalCause, 
 ghost use Rattle.nova_top.specs.Program.{denial_of, IsDenied, DeniedCause, status_printed};
 ghost use Rattle.nova_top.specs.Workload.{with_workload};
 ghost use Rattle.nova_top.specs.Resumption.{ResumesSaved};
+ghost use Rattle.nova_top.specs.Used.{ProgramTold};
 
 use crate::word_files::{Beginning, Refusal, begin};
 use crate::workload::set_up;
@@ -81,21 +83,24 @@ pub fn simulate<U: Unit, C: Source, S: Sink, F: Files, L: Lines>(
     lines: &mut L,
 ) -> Ending<U>
     requires { IsStandard (map U.unit_state units.items) }
-    ensures outcome { InputTells (texts_of words.now) C.tells → IsTrue F.tells → IsTrue L.tells → IsTrue S.tells
+    ensures outcome { InputTells (texts_of words.now) C.tells → ProgramTold F.tells L.tells (texts_of words.now)
+        (C.left input.old) (F.state files.old).files (L.state lines.old) → IsTrue S.tells
         → result.status ≢ 103
         → (whole : List LineAnswer) → IsFirst (record_in (L.state lines.new).told) whole
         → IsOutcome (texts_of words.now) (C.left input.old) (C.left input.new) (S.written output.old)
         (S.written output.new) (beyond (F.state files.old).files (L.state lines.old) whole)
         (beyond (F.state files.new).files (L.state lines.new) whole) result.status result.machine
         (notes_said result.faults.items) }
-    ensures memory { InputTells (texts_of words.now) C.tells → IsTrue F.tells → IsTrue L.tells → IsTrue S.tells
+    ensures memory { InputTells (texts_of words.now) C.tells → ProgramTold F.tells L.tells (texts_of words.now)
+        (C.left input.old) (F.state files.old).files (L.state lines.old) → IsTrue S.tells
         → result.status ≡ 103
         → (whole : List LineAnswer) → IsFirst (record_in (L.state lines.new).told) whole
         → IsCutShort (texts_of words.now) (C.left input.old) (C.left input.new) (S.written output.old)
         (S.written output.new) (beyond (F.state files.old).files (L.state lines.old) whole)
         (beyond (F.state files.new).files (L.state lines.new) whole) result.machine
         (notes_said result.faults.items) }
-    ensures complete { InputTells (texts_of words.now) C.tells → IsTrue F.tells → IsTrue L.tells → IsTrue S.tells
+    ensures complete { InputTells (texts_of words.now) C.tells → ProgramTold F.tells L.tells (texts_of words.now)
+        (C.left input.old) (F.state files.old).files (L.state lines.old) → IsTrue S.tells
         → result.status ≢ 103 → (Rose (S.fault_count output.old) (S.fault_count output.new) → ⊥)
         → (Rose (C.fault_count input.old) (C.fault_count input.new) → ⊥)
         → NoneFailed (F.state files.old) (F.state files.new)
@@ -103,7 +108,8 @@ pub fn simulate<U: Unit, C: Source, S: Sink, F: Files, L: Lines>(
         → IsComplete (texts_of words.now) (C.left input.old) (C.left input.new) (S.written output.old)
         (S.written output.new) (beyond (F.state files.old).files (L.state lines.old) whole)
         (beyond (F.state files.new).files (L.state lines.new) whole) result.status result.machine }
-    ensures resumed { InputTells (texts_of words.now) C.tells → IsTrue F.tells → IsTrue L.tells → IsTrue S.tells
+    ensures resumed { InputTells (texts_of words.now) C.tells → ProgramTold F.tells L.tells (texts_of words.now)
+        (C.left input.old) (F.state files.old).files (L.state lines.old) → IsTrue S.tells
         → result.status ≢ 102 → result.status ≢ 103 → result.status ≢ 106
         → (whole : List LineAnswer) → IsFirst (record_in (L.state lines.new).told) whole
         → ResumesSaved (texts_of words.now) (C.left input.old) (C.left input.new) (S.written output.old)
@@ -272,7 +278,9 @@ fn run_session<U: Unit, C: Source, S: Sink, F: Files, L: Lines>(
     requires open { AllOpen session.machine.slots (F.state files.old).opened }
     requires lines { session.machine.lines ≡ unconnected None ∷ [] }
     ensures ended { SessionEnds result.status result.machine
-        (λ finish watch now. (opening.now.reads ≡ true → IsTrue C.tells) → IsTrue F.tells → IsTrue L.tells
+        (λ finish watch now. (opening.now.reads ≡ true → IsTrue C.tells)
+        → CourseTold F.tells L.tells (λ whole notes. beginning session
+        (beyond (F.state files.old).files (L.state lines.old) whole) opening.now (C.left input.old) notes)
         → IsTrue S.tells → (whole : List LineAnswer) → IsFirst (record_in (L.state lines.new).told) whole → Performed
         (λ notes. beginning session (beyond (F.state files.old).files (L.state lines.old) whole) opening.now
         (C.left input.old) notes) finish

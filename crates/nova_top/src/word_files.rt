@@ -13,6 +13,7 @@ ghost use Rattle.nova_top.specs.Outside.{keys_from, taken_keys, script_from, tak
 ghost use Rattle.nova_top.specs.Program.{noted_call, ReadsFile, ComesOf, Takes, RefusalCause, as_file, BeginsAs};
 ghost use Rattle.nova_top.specs.Program.{OpensAs, AddsClosings, IsUnrefused};
 ghost use Rattle.nova_top.specs.Ends.{AreWordClosings};
+ghost use Rattle.nova_top.specs.Used.{NamesTold};
 ghost use Rattle.nova_top.specs.Unread.{WordCause, AnswersRead, TakesCause, BeginsCause, keys_ids};
 ghost use Rattle.nova_top.specs.declared.word_files.Refusal.TheVariants.{OutOfMemory};
 ghost use Rattle.whole_files.specs.declared.whole.WholeFault.TheVariants as whole_faults;
@@ -58,11 +59,11 @@ pub fn begin<F: Files>(
     requires named { FilesAreNamed (texts_of words.now) options }
     requires none { notes.old.items ≡ [] }
     requires room { 4 ≤ vec_capacity notes.old }
-    ensures told { IsTrue F.tells → BeginsAs (texts_of words.now) options (F.state files.old).files
+    ensures told { NamesTold F.tells options → BeginsAs (texts_of words.now) options (F.state files.old).files
         (notes_said notes.new.items) result }
     ensures opens { IfOk result (λ beginning. OpensAs (texts_of words.now) options beginning.opening) }
     ensures cause { IfErr result (RefusalCause (texts_of words.now) options) }
-    ensures files { IsTrue F.tells → (F.state files.new).files ≡ (F.state files.old).files }
+    ensures files { NamesTold F.tells options → (F.state files.new).files ≡ (F.state files.old).files }
     ensures opened { (F.state files.new).opened ≡ (F.state files.old).opened }
     ensures keeps { AreKept [] notes.new.items (F.state files.old) (F.state files.new) }
     ensures whose { AreOwn no_files no_files [] notes.new.items (F.state files.old) (F.state files.new) }
@@ -130,12 +131,12 @@ fn take_keys<F: Files>(
 ) -> Result<Keys, Refusal>
     requires named { FilesAreNamed (texts_of words.now) options }
     requires room { vec_len notes.old + 2 ≤ vec_capacity notes.old }
-    ensures told { IsTrue F.tells → Takes subject.Keys (texts_of words.now)
+    ensures told { NamesTold F.tells options → Takes subject.Keys (texts_of words.now)
         (taken_keys (keys_name (texts_of words.now) options) (F.state files.old).files) notes.old.items notes.new.items
         result }
     ensures cause { IfErr result (RefusalCause (texts_of words.now) options) }
     ensures room { vec_len notes.new + vec_capacity notes.old ≤ vec_len notes.old + 2 + vec_capacity notes.new }
-    ensures files { IsTrue F.tells → (F.state files.new).files ≡ (F.state files.old).files }
+    ensures files { NamesTold F.tells options → (F.state files.new).files ≡ (F.state files.old).files }
     ensures opened { (F.state files.new).opened ≡ (F.state files.old).opened }
     ensures keeps { AreKept notes.old.items notes.new.items (F.state files.old) (F.state files.new) }
     ensures whose { AreOwn no_files no_files notes.old.items notes.new.items (F.state files.old) (F.state files.new) }
@@ -165,11 +166,11 @@ fn take_script<F: Files>(
 ) -> Result<Option<ScriptText>, Refusal>
     requires named { FilesAreNamed (texts_of words.now) options }
     requires room { vec_len notes.old + 2 ≤ vec_capacity notes.old }
-    ensures told { IsTrue F.tells → Takes subject.Script (texts_of words.now)
+    ensures told { NamesTold F.tells options → Takes subject.Script (texts_of words.now)
         (taken_script (script_name (texts_of words.now) options) (F.state files.old).files) notes.old.items
         notes.new.items result }
     ensures cause { IfErr result (RefusalCause (texts_of words.now) options) }
-    ensures files { IsTrue F.tells → (F.state files.new).files ≡ (F.state files.old).files }
+    ensures files { NamesTold F.tells options → (F.state files.new).files ≡ (F.state files.old).files }
     ensures opened { (F.state files.new).opened ≡ (F.state files.old).opened }
     ensures keeps { AreKept notes.old.items notes.new.items (F.state files.old) (F.state files.new) }
     ensures whose { AreOwn no_files no_files notes.old.items notes.new.items (F.state files.old) (F.state files.new) }

@@ -18,13 +18,13 @@ returns-clause-ended g c = (
   c.session.inside.machine,
   c.status.ensures,
   refl,
-  (λ source files telling sink whole first. lines-told c.args.session c.perform-finish.new.session _ c.args.opening.now
+  (λ source used sink whole first. lines-told c.args.session c.perform-finish.new.session _ c.args.opening.now
       (beyond (g.F.Files.state c.args.files.now).files (g.L.Lines.state c.args.lines.now) whole) (beyond (g.F.Files.state c.perform-finish.new.files).files (g.L.Lines.state c.perform-finish.new.lines) whole)
       (g.C.Source.left c.args.input.now) (g.C.Source.left c.perform-finish.new.input) (output (g.S.Sink.written c.args.output.now) (g.L.Lines.state c.args.lines.now).sent)
       (output (g.S.Sink.written c.perform-finish.new.out) (g.L.Lines.state c.perform-finish.new.lines).sent) c.perform-finish.result
       c.session.view_is c.perform-finish.ensures.keys
-      (c.perform-finish.ensures.told (omega (arith, c.requires.command, c.requires.budget)) source files telling
-      (apart-at-first (g.L.Lines.state c.args.lines.now) c.args.session.machine.lines c.requires.lines) sink whole first)),
+      (c.perform-finish.ensures.told (omega (arith, c.requires.command, c.requires.budget)) source used
+      (λ tells. apart-at-first (g.L.Lines.state c.args.lines.now) c.args.session.machine.lines c.requires.lines) sink whole first)),
   c.perform-finish.ensures.cause,
 )
 

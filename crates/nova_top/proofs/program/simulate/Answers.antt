@@ -1,4 +1,4 @@
-use Rattle.std.proofs.Common.{◌≡◌, inl, inr, true, IsTrue, Err, List, [], Option, map, refl, ap, sym, ◌∙◌, subst, arith}
+use Rattle.std.proofs.Common.{◌≡◌, ◌⊎◌, Some, inl, inr, true, IsTrue, Err, List, [], Option, map, refl, ap, sym, ◌∙◌, subst, arith}
 use Rattle.file_commands.specs.declared.note.FaultNote.{FaultNote}
 use Rattle.file_commands.specs.Notes.{notes_said}
 use Rattle.file_commands.specs.Counts.{AreCounted}
@@ -14,8 +14,12 @@ use Rattle.state_file.specs.SavedValid.{AreStandard}
 use Rattle.command_session.specs.Live.{CommandState, beyond}
 use Rattle.scp_script.specs.Loop.{AreKept}
 use Rattle.nova_top.specs.declared.word_files.Refusal.{Refusal}
-use Rattle.nova_top.specs.Ends.{AreWordClosings, InputTells}
-use Rattle.command_words.specs.Words.{texts_of}
+use Rattle.nova_top.specs.Ends.{AreWordClosings, InputTells, HasKeysFile, HasScript}
+use Rattle.nova_top.specs.Used.{NamesTold}
+use Rattle.nova_top.proofs.UsedLemmas.{words-named, course-told}
+use Rattle.command_words.specs.Words.{options_of, texts_of}
+use Rattle.command_words.specs.declared.options.Options.{Options}
+use Rattle.std.proofs.Common.{String, Global}
 use Rattle.nova_top.specs.Workload.{with_workload}
 use Rattle.nova_top.proofs.ProgramLemmas.{Begun, Made, begun-files, begun-line, new-slots, new-standard, workload-given}
 use Rattle.nova_top.proofs.ProgramLemmas.{usage-answer, files-answer, files-memory, files-status, files-cause, session-answer, memory-answer, session-cause, session-status, refused-status, kept-counted, refused-counted, complete-answer, never-unwritten, denied-unwritten, unwritten-whole}
@@ -26,36 +30,41 @@ use Rattle.nova_top.proofs.program.simulate.Given.{Over}
 use Rattle.nova_top.proofs.program.simulate.Goals as goal
 use Rattle.nova_top.proofs.program.simulate.Goals.{After-run_session-arg-in-Ok-begin-2-1}
 
+-- a file that the words name is told
+named : (g : Over) (words : List (String Global)) (options : Options) → options_of (texts_of words) ≡ Some options → (HasKeysFile (texts_of words) ⊎ HasScript (texts_of words) → IsTrue g.F.Files.tells)
+    → NamesTold g.F.Files.tells options
+named g words options chosen told = words-named g.F.Files.tells (texts_of words) options chosen told
+
 -- ---- words outside their grammar
 
 pub returns-in_default-clause-outcome : goal.returns-in_default-clause-outcome
-returns-in_default-clause-outcome g c = λ source files telling sink other whole first.
+returns-in_default-clause-outcome g c = λ source used sink other whole first.
     usage-answer (texts_of c.args.words.now) (g.C.Source.left c.args.input.now) (g.S.Sink.written c.args.output.now) (g.S.Sink.written c.usage.new.output)
     (beyond (g.F.Files.state c.args.files.now).files (g.L.Lines.state c.args.lines.now) whole) c.usage.result.status c.usage.result.machine c.usage.result.faults.items
     (sym c.options_of.ensures.options ∙ c.in_default.is) c.usage.ensures.machine c.usage.ensures.notes (c.usage.ensures.told sink)
 
 pub returns-in_default-clause-complete : goal.returns-in_default-clause-complete
-returns-in_default-clause-complete g c = λ source files telling sink other quiet fed none whole first.
+returns-in_default-clause-complete g c = λ source used sink other quiet fed none whole first.
     let was = g.F.Files.state c.args.files.now in
     let old = beyond was.files (g.L.Lines.state c.args.lines.now) whole in
     let is = refused-status 100 c.usage.result.status (g.S.Sink.fault_count c.args.output.now) (g.S.Sink.fault_count c.usage.new.output) c.usage.ensures.cause quiet in
     complete-answer (texts_of c.args.words.now) (g.C.Source.left c.args.input.now) (g.C.Source.left c.args.input.now) (g.S.Sink.written c.args.output.now) (g.S.Sink.written c.usage.new.output) old old
     c.usage.result.status c.usage.result.machine c.usage.result.faults.items was was ((λ s. omega (arith, is, s)), (λ s. omega (arith, is, s)))
     (subst (λ (items : List FaultNote). AreCounted items was was) (sym c.usage.ensures.notes) (counted-none was)) none
-    (returns-in_default-clause-outcome g c source files telling sink other whole first)
+    (returns-in_default-clause-outcome g c source used sink other whole first)
 
 -- ---- a file that is refused
 
 pub returns-in-Err-clause-outcome : goal.returns-in-Err-clause-outcome
-returns-in-Err-clause-outcome g c = λ source files telling sink other whole first.
+returns-in-Err-clause-outcome g c = λ source used sink other whole first.
     let lines = g.L.Lines.state c.args.lines.now in
     files-answer (texts_of c.args.words.now) c.in-Some.options (g.C.Source.left c.args.input.now) (g.S.Sink.written c.args.output.now) (g.S.Sink.written c.refuse_files.new.output)
     (beyond (g.F.Files.state c.args.files.now).files lines whole) (beyond (g.F.Files.state c.begin.new.files).files lines whole) c.in-Err.refusal c.refuse_files.result.status c.refuse_files.result.machine
-    c.begin.new.notes.items c.refuse_files.result.faults.items (sym c.options_of.ensures.options ∙ c.in-Some.is) (c.in-Err.ensures.told files) c.refuse_files.ensures.machine
-    (ap (λ (f : List NamedBytes). beyond f lines whole) (c.begin.ensures.files files)) other (c.refuse_files.ensures.told sink) (c.refuse_files.ensures.notes ∙ c.notes_of.ensures)
+    c.begin.new.notes.items c.refuse_files.result.faults.items (sym c.options_of.ensures.options ∙ c.in-Some.is) (c.in-Err.ensures.told (named g c.args.words.now c.in-Some.options (sym c.options_of.ensures.options ∙ c.in-Some.is) used.names)) c.refuse_files.ensures.machine
+    (ap (λ (f : List NamedBytes). beyond f lines whole) (c.begin.ensures.files (named g c.args.words.now c.in-Some.options (sym c.options_of.ensures.options ∙ c.in-Some.is) used.names))) other (c.refuse_files.ensures.told sink) (c.refuse_files.ensures.notes ∙ c.notes_of.ensures)
 
 pub returns-in-Err-clause-complete : goal.returns-in-Err-clause-complete
-returns-in-Err-clause-complete g c = λ source files telling sink other quiet fed none whole first.
+returns-in-Err-clause-complete g c = λ source used sink other quiet fed none whole first.
     let was = g.F.Files.state c.args.files.now in
     let now = g.F.Files.state c.begin.new.files in
     let lines = g.L.Lines.state c.args.lines.now in
@@ -63,14 +72,14 @@ returns-in-Err-clause-complete g c = λ source files telling sink other quiet fe
     complete-answer (texts_of c.args.words.now) (g.C.Source.left c.args.input.now) (g.C.Source.left c.args.input.now) (g.S.Sink.written c.args.output.now) (g.S.Sink.written c.refuse_files.new.output)
     (beyond was.files lines whole) (beyond now.files lines whole) c.refuse_files.result.status c.refuse_files.result.machine c.refuse_files.result.faults.items was now status
     (refused-counted [] c.begin.new.notes.items c.refuse_files.result.faults.items was now refl (c.refuse_files.ensures.notes ∙ c.notes_of.ensures) c.begin.ensures.keeps) none
-    (returns-in-Err-clause-outcome g c source files telling sink other whole first)
+    (returns-in-Err-clause-outcome g c source used sink other whole first)
 
 pub returns-in-Err-clause-memory : goal.returns-in-Err-clause-memory
-returns-in-Err-clause-memory g c = λ source files telling sink memory whole first.
+returns-in-Err-clause-memory g c = λ source used sink memory whole first.
     let lines = g.L.Lines.state c.args.lines.now in
     files-memory (texts_of c.args.words.now) c.in-Some.options (g.C.Source.left c.args.input.now) (g.S.Sink.written c.args.output.now) (g.S.Sink.written c.refuse_files.new.output)
     (beyond (g.F.Files.state c.args.files.now).files lines whole) (beyond (g.F.Files.state c.begin.new.files).files lines whole) c.in-Err.refusal c.refuse_files.result.status c.refuse_files.result.machine
-    (notes_said c.refuse_files.result.faults.items) (sym c.options_of.ensures.options ∙ c.in-Some.is) c.refuse_files.ensures.machine (ap (λ (f : List NamedBytes). beyond f lines whole) (c.begin.ensures.files files)) memory
+    (notes_said c.refuse_files.result.faults.items) (sym c.options_of.ensures.options ∙ c.in-Some.is) c.refuse_files.ensures.machine (ap (λ (f : List NamedBytes). beyond f lines whole) (c.begin.ensures.files (named g c.args.words.now c.in-Some.options (sym c.options_of.ensures.options ∙ c.in-Some.is) used.names))) memory
     (c.refuse_files.ensures.told sink)
     (λ short. subst (λ (l : List FaultNote). AreWordClosings (notes_said l)) (sym (c.refuse_files.ensures.notes ∙ c.notes_of.ensures))
     (c.begin.ensures.closings (c.in-Err.is ∙ ap (λ (r : Refusal). Err r) short)))
@@ -95,14 +104,14 @@ made g c = record {
 }
 
 begun : (g : Over) (c : goal.After-run_session-arg-in-Ok-begin-2-1 g)
-    → Begun g.F.Files.tells (texts_of c.args.words.now) c.in-Some.options c.ready.result c.in-Ok-begin.field-0.opening (g.F.Files.state c.args.files.now) (g.F.Files.state c.begin.new.files)
+    → Begun (NamesTold g.F.Files.tells c.in-Some.options) (texts_of c.args.words.now) c.in-Some.options c.ready.result c.in-Ok-begin.field-0.opening (g.F.Files.state c.args.files.now) (g.F.Files.state c.begin.new.files)
 begun g c =
     let words = texts_of c.args.words.now in
     let old = g.F.Files.state c.args.files.now in
     let new = g.F.Files.state c.begin.new.files in
-    let is_begun : CommandState → Type 0 = λ s. Begun g.F.Files.tells words c.in-Some.options s c.in-Ok-begin.field-0.opening old new in
+    let is_begun : CommandState → Type 0 = λ s. Begun (NamesTold g.F.Files.tells c.in-Some.options) words c.in-Some.options s c.in-Ok-begin.field-0.opening old new in
     subst is_begun (sym c.ready.ensures)
-    (begun-files g.F.Files.tells words c.in-Some.options (map g.U.Unit.unit_state c.args.units.items) _ c.in-Ok.session (with_workload c.in-Some.options.workload c.session.inside.machine) c.in-Ok-begin.field-0.keys c.in-Ok-begin.field-0.opening c.begin.new.notes.items _ old new (made g c) c.session.view_is refl
+    (begun-files (NamesTold g.F.Files.tells c.in-Some.options) words c.in-Some.options (map g.U.Unit.unit_state c.args.units.items) _ c.in-Ok.session (with_workload c.in-Some.options.workload c.session.inside.machine) c.in-Ok-begin.field-0.keys c.in-Ok-begin.field-0.opening c.begin.new.notes.items _ old new (made g c) c.session.view_is refl
     c.in-Ok-begin.ensures.told c.in-Ok-begin.ensures.opens c.begin.ensures.files c.begin.ensures.opened c.begin.ensures.keeps)
 
 -- nothing is attached to its machine
@@ -131,7 +140,7 @@ told-input g c tells on =
 
 pub run_session-requires-clause-lines : goal.run_session-requires-clause-lines
 run_session-requires-clause-lines g c =
-    begun-line g.F.Files.tells (texts_of c.args.words.now) c.in-Some.options _ c.in-Ok-begin.field-0.opening (g.F.Files.state c.args.files.now) (g.F.Files.state c.begin.new.files)
+    begun-line (NamesTold g.F.Files.tells c.in-Some.options) (texts_of c.args.words.now) c.in-Some.options _ c.in-Ok-begin.field-0.opening (g.F.Files.state c.args.files.now) (g.F.Files.state c.begin.new.files)
     (begun g (goal.at.run_session-requires-clause-lines g c).After-run_session-arg-in-Ok-begin-2-1)
 
 pub run_session-requires-clause-standard : goal.run_session-requires-clause-standard
@@ -151,22 +160,32 @@ returns-in-Ok-begin-clause-cause g c =
     (g.C.Source.fault_count c.args.input.now) (g.C.Source.fault_count c.run_session.new.input) (sym c.options_of.ensures.options ∙ c.in-Some.is) status cause
 
 pub returns-in-Ok-begin-clause-outcome : goal.returns-in-Ok-begin-clause-outcome
-returns-in-Ok-begin-clause-outcome g c = λ source files telling sink other whole first.
+returns-in-Ok-begin-clause-outcome g c = λ source used sink other whole first.
     let (finish, watch, now, status, machine, told, cause) = c.run_session.ensures.ended in
     let after = (goal.at.returns-in-Ok-begin-clause-outcome g c).After-run_session-arg-in-Ok-begin-2-1 in
-    session-answer g.F.Files.tells (texts_of c.args.words.now) c.in-Some.options _ c.in-Ok-begin.field-0.opening (g.F.Files.state c.args.files.now) (g.F.Files.state c.begin.new.files) (g.L.Lines.state c.args.lines.now) whole
+    let chosen = sym c.options_of.ensures.options ∙ c.in-Some.is in
+    let names = named g c.args.words.now c.in-Some.options chosen used.names in
+    let course = λ (b : Begun (NamesTold g.F.Files.tells c.in-Some.options) (texts_of c.args.words.now) c.in-Some.options c.ready.result c.in-Ok-begin.field-0.opening (g.F.Files.state c.args.files.now) (g.F.Files.state c.begin.new.files)).
+    course-told g.F.Files.tells g.L.Lines.tells (NamesTold g.F.Files.tells c.in-Some.options) (texts_of c.args.words.now) c.in-Some.options c.ready.result c.in-Ok-begin.field-0.opening
+    (g.F.Files.state c.args.files.now) (g.F.Files.state c.begin.new.files) (g.L.Lines.state c.args.lines.now) (g.C.Source.left c.args.input.now) chosen b names used in
+    session-answer (NamesTold g.F.Files.tells c.in-Some.options) (texts_of c.args.words.now) c.in-Some.options _ c.in-Ok-begin.field-0.opening (g.F.Files.state c.args.files.now) (g.F.Files.state c.begin.new.files) (g.L.Lines.state c.args.lines.now) whole
     (beyond (g.F.Files.state c.run_session.new.files).files (g.L.Lines.state c.run_session.new.lines) whole)
     (g.C.Source.left c.args.input.now) (g.C.Source.left c.run_session.new.input) (g.S.Sink.written c.args.output.now) (g.S.Sink.written c.run_session.new.output) finish watch now c.run_session.result.status c.run_session.result.machine
-    (notes_said c.run_session.result.faults.items) (sym c.options_of.ensures.options ∙ c.in-Some.is) (begun g after) files cause.exit status machine other (told (told-input g after source) files telling sink whole first)
+    (notes_said c.run_session.result.faults.items) (sym c.options_of.ensures.options ∙ c.in-Some.is) (begun g after) names cause.exit status machine other (told (told-input g after source) (course (begun g after)) sink whole first)
 
 pub returns-in-Ok-begin-clause-memory : goal.returns-in-Ok-begin-clause-memory
-returns-in-Ok-begin-clause-memory g c = λ source files telling sink memory whole first.
+returns-in-Ok-begin-clause-memory g c = λ source used sink memory whole first.
     let (finish, watch, now, status, machine, told, cause) = c.run_session.ensures.ended in
     let after = (goal.at.returns-in-Ok-begin-clause-memory g c).After-run_session-arg-in-Ok-begin-2-1 in
-    memory-answer g.F.Files.tells (texts_of c.args.words.now) c.in-Some.options _ c.in-Ok-begin.field-0.opening (g.F.Files.state c.args.files.now) (g.F.Files.state c.begin.new.files) (g.L.Lines.state c.args.lines.now) whole
+    let chosen = sym c.options_of.ensures.options ∙ c.in-Some.is in
+    let names = named g c.args.words.now c.in-Some.options chosen used.names in
+    let course = λ (b : Begun (NamesTold g.F.Files.tells c.in-Some.options) (texts_of c.args.words.now) c.in-Some.options c.ready.result c.in-Ok-begin.field-0.opening (g.F.Files.state c.args.files.now) (g.F.Files.state c.begin.new.files)).
+    course-told g.F.Files.tells g.L.Lines.tells (NamesTold g.F.Files.tells c.in-Some.options) (texts_of c.args.words.now) c.in-Some.options c.ready.result c.in-Ok-begin.field-0.opening
+    (g.F.Files.state c.args.files.now) (g.F.Files.state c.begin.new.files) (g.L.Lines.state c.args.lines.now) (g.C.Source.left c.args.input.now) chosen b names used in
+    memory-answer (NamesTold g.F.Files.tells c.in-Some.options) (texts_of c.args.words.now) c.in-Some.options _ c.in-Ok-begin.field-0.opening (g.F.Files.state c.args.files.now) (g.F.Files.state c.begin.new.files) (g.L.Lines.state c.args.lines.now) whole
     (beyond (g.F.Files.state c.run_session.new.files).files (g.L.Lines.state c.run_session.new.lines) whole)
     (g.C.Source.left c.args.input.now) (g.C.Source.left c.run_session.new.input) (g.S.Sink.written c.args.output.now) (g.S.Sink.written c.run_session.new.output) finish watch now c.run_session.result.status c.run_session.result.machine
-    (notes_said c.run_session.result.faults.items) (sym c.options_of.ensures.options ∙ c.in-Some.is) (begun g after) files cause.exit status machine memory (told (told-input g after source) files telling sink whole first)
+    (notes_said c.run_session.result.faults.items) (sym c.options_of.ensures.options ∙ c.in-Some.is) (begun g after) names cause.exit status machine memory (told (told-input g after source) (course (begun g after)) sink whole first)
 
 pub returns-in-Ok-begin-clause-notes : goal.returns-in-Ok-begin-clause-notes
 returns-in-Ok-begin-clause-notes g c =
@@ -174,7 +193,7 @@ returns-in-Ok-begin-clause-notes g c =
     (subst (λ (s : CommandState). AreKept s.notes c.run_session.result.faults.items (g.F.Files.state c.begin.new.files) (g.F.Files.state c.run_session.new.files)) c.ready.ensures c.run_session.ensures.keeps)
 
 pub returns-in-Ok-begin-clause-complete : goal.returns-in-Ok-begin-clause-complete
-returns-in-Ok-begin-clause-complete g c = λ source files telling sink other quiet fed none whole first.
+returns-in-Ok-begin-clause-complete g c = λ source used sink other quiet fed none whole first.
     let (finish, watch, now, status, machine, told, cause) = c.run_session.ensures.ended in
     let was = g.F.Files.state c.args.files.now in
     let left = g.F.Files.state c.run_session.new.files in
@@ -185,7 +204,7 @@ returns-in-Ok-begin-clause-complete g c = λ source files telling sink other qui
     complete-answer (texts_of c.args.words.now) (g.C.Source.left c.args.input.now) (g.C.Source.left c.run_session.new.input) (g.S.Sink.written c.args.output.now) (g.S.Sink.written c.run_session.new.output)
     (beyond was.files (g.L.Lines.state c.args.lines.now) whole) (beyond left.files (g.L.Lines.state c.run_session.new.lines) whole)
     c.run_session.result.status c.run_session.result.machine c.run_session.result.faults.items was left ended (returns-in-Ok-begin-clause-notes g c) none
-    (returns-in-Ok-begin-clause-outcome g c source files telling sink other whole first)
+    (returns-in-Ok-begin-clause-outcome g c source used sink other whole first)
 
 -- ---- ports
 
@@ -297,21 +316,21 @@ returns-in-Ok-begin-clause-no_keys g c = λ is.
 -- ---- a session that was restored
 
 pub returns-in_default-clause-resumed : goal.returns-in_default-clause-resumed
-returns-in_default-clause-resumed g c = λ source files telling sink no_byte other no_read whole first.
+returns-in_default-clause-resumed g c = λ source used sink no_byte other no_read whole first.
     let lines = g.L.Lines.state c.args.lines.now in
     let old = beyond (g.F.Files.state c.args.files.now).files lines whole in
     resumes-saved (texts_of c.args.words.now) (g.C.Source.left c.args.input.now) (g.C.Source.left c.args.input.now) (g.S.Sink.written c.args.output.now) (g.S.Sink.written c.usage.new.output) old old
-    c.usage.result.status c.usage.result.machine (notes_said c.usage.result.faults.items) (returns-in_default-clause-outcome g c source files telling sink other whole first) no_byte no_read
+    c.usage.result.status c.usage.result.machine (notes_said c.usage.result.faults.items) (returns-in_default-clause-outcome g c source used sink other whole first) no_byte no_read
 
 pub returns-in-Err-clause-resumed : goal.returns-in-Err-clause-resumed
-returns-in-Err-clause-resumed g c = λ source files telling sink no_byte other no_read whole first.
+returns-in-Err-clause-resumed g c = λ source used sink no_byte other no_read whole first.
     let lines = g.L.Lines.state c.args.lines.now in
     resumes-saved (texts_of c.args.words.now) (g.C.Source.left c.args.input.now) (g.C.Source.left c.args.input.now) (g.S.Sink.written c.args.output.now) (g.S.Sink.written c.refuse_files.new.output)
     (beyond (g.F.Files.state c.args.files.now).files lines whole) (beyond (g.F.Files.state c.begin.new.files).files lines whole) c.refuse_files.result.status c.refuse_files.result.machine
-    (notes_said c.refuse_files.result.faults.items) (returns-in-Err-clause-outcome g c source files telling sink other whole first) no_byte no_read
+    (notes_said c.refuse_files.result.faults.items) (returns-in-Err-clause-outcome g c source used sink other whole first) no_byte no_read
 
 pub returns-in-Ok-begin-clause-resumed : goal.returns-in-Ok-begin-clause-resumed
-returns-in-Ok-begin-clause-resumed g c = λ source files telling sink no_byte other no_read whole first.
+returns-in-Ok-begin-clause-resumed g c = λ source used sink no_byte other no_read whole first.
     resumes-saved (texts_of c.args.words.now) (g.C.Source.left c.args.input.now) (g.C.Source.left c.run_session.new.input) (g.S.Sink.written c.args.output.now) (g.S.Sink.written c.run_session.new.output)
     (beyond (g.F.Files.state c.args.files.now).files (g.L.Lines.state c.args.lines.now) whole) (beyond (g.F.Files.state c.run_session.new.files).files (g.L.Lines.state c.run_session.new.lines) whole)
-    c.run_session.result.status c.run_session.result.machine (notes_said c.run_session.result.faults.items) (returns-in-Ok-begin-clause-outcome g c source files telling sink other whole first) no_byte no_read
+    c.run_session.result.status c.run_session.result.machine (notes_said c.run_session.result.faults.items) (returns-in-Ok-begin-clause-outcome g c source used sink other whole first) no_byte no_read

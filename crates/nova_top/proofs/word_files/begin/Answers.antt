@@ -13,6 +13,7 @@ use Rattle.nova_top.specs.Unread.{BeginsCause}
 use Rattle.nova_top.proofs.UnreadLemmas.{keys-refused, keys-taken, script-refused, both-fit}
 use Rattle.nova_top.proofs.WordFileLemmas.{script-denied, denied-along, both-begin, text-begins}
 use Rattle.nova_top.proofs.ReadingLemmas.{kept-both, own-from-none, closings-none, closings-both, is-want}
+use Rattle.nova_top.proofs.UsedLemmas.{names-told}
 use Rattle.nova_top.proofs.word_files.begin.Goals as goal
 
 pub returns-in_err-script-clause-told : goal.returns-in_err-script-clause-told
@@ -110,7 +111,7 @@ returns-in_err-script-clause-unread g c =
     let refusal = c.in_err-script.field-0.0 in
     let is : c.from_residual-in_err-script.result ≡ Err refusal = search rules in
     let keys = keys-taken g.F.Files.tells words c.args.options c.in_ok-keys.keys c.args.notes.now.items c.take_keys.new.notes.items old mid c.requires.none
-    c.in_ok-keys.ensures.unread (c.in_ok-keys.ensures.closings tt) c.take_keys.ensures.files c.take_keys.ensures.keeps c.in_ok-keys.ensures.taken in
+    c.in_ok-keys.ensures.unread (c.in_ok-keys.ensures.closings tt) (λ told. c.take_keys.ensures.files (names-told g.F.Files.tells c.args.options told)) c.take_keys.ensures.keeps c.in_ok-keys.ensures.taken in
     subst (λ (r : Result Beginning Refusal). BeginsCause g.F.Files.tells words c.args.options r c.take_script.new.notes.items old new) (sym is)
     (script-refused _ g.F.Files.tells words c.args.options refusal c.args.notes.now.items c.take_keys.new.notes.items c.take_script.new.notes.items old mid new keys c.in_err-script.ensures.unread)
 
@@ -121,7 +122,7 @@ returns-in-Ok-clause-unread g c =
     let mid = g.F.Files.state c.take_keys.new.files in
     let new = g.F.Files.state c.take_script.new.files in
     let keys = keys-taken g.F.Files.tells words c.args.options c.in_ok-keys.keys c.args.notes.now.items c.take_keys.new.notes.items old mid c.requires.none
-    c.in_ok-keys.ensures.unread (c.in_ok-keys.ensures.closings tt) c.take_keys.ensures.files c.take_keys.ensures.keeps c.in_ok-keys.ensures.taken in
+    c.in_ok-keys.ensures.unread (c.in_ok-keys.ensures.closings tt) (λ told. c.take_keys.ensures.files (names-told g.F.Files.tells c.args.options told)) c.take_keys.ensures.keeps c.in_ok-keys.ensures.taken in
     both-fit g.F.Files.tells words c.args.options c.in_ok-script.script c.args.notes.now.items c.take_keys.new.notes.items c.take_script.new.notes.items old mid new keys c.in_ok-script.ensures.unread
 
 pub returns-in-Err-clause-unread : goal.returns-in-Err-clause-unread
@@ -131,6 +132,6 @@ returns-in-Err-clause-unread g c =
     let mid = g.F.Files.state c.take_keys.new.files in
     let new = g.F.Files.state c.take_script.new.files in
     let keys = keys-taken g.F.Files.tells words c.args.options c.in_ok-keys.keys c.args.notes.now.items c.take_keys.new.notes.items old mid c.requires.none
-    c.in_ok-keys.ensures.unread (c.in_ok-keys.ensures.closings tt) c.take_keys.ensures.files c.take_keys.ensures.keeps c.in_ok-keys.ensures.taken in
+    c.in_ok-keys.ensures.unread (c.in_ok-keys.ensures.closings tt) (λ told. c.take_keys.ensures.files (names-told g.F.Files.tells c.args.options told)) c.take_keys.ensures.keeps c.in_ok-keys.ensures.taken in
     let fit = both-fit g.F.Files.tells words c.args.options c.in_ok-script.script c.args.notes.now.items c.take_keys.new.notes.items c.take_script.new.notes.items old mid new keys c.in_ok-script.ensures.unread in
     (λ more. fit.0, λ more. fit.1)

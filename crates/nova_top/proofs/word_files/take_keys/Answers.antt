@@ -4,13 +4,14 @@ use Rattle.command_words.specs.Words.{texts_of, keys_name}
 use Rattle.nova_top.specs.Unread.{keys_ids}
 use Rattle.nova_top.proofs.UnreadLemmas.{keys-cause, keys-given, none-given, none-taken}
 use Rattle.nova_top.proofs.ReadingLemmas.{named-at, keys-take}
+use Rattle.nova_top.proofs.UsedLemmas.{keys-told}
 use Rattle.nova_top.proofs.word_files.take_keys.Goals as goal
 
 pub returns-in-Some-clause-told : goal.returns-in-Some-clause-told
 returns-in-Some-clause-told g c = λ told.
     let within = named-at c.args.options.keys (length (texts_of c.args.words.now)) c.in-Some.place c.requires.named.keys c.in-Some.is in
     keys-take c.args.words.now c.args.options (g.F.Files.state c.args.files.now).files c.in-Some.place c.index-words-place.result c.args.notes.now.items c.read_word-read.new.notes.items c.read_word-read.result c.keys_of.result
-    c.in-Some.is within c.index-words-place.is (c.read_word-read.ensures.told told) c.keys_of.ensures.comes
+    c.in-Some.is within c.index-words-place.is (c.read_word-read.ensures.told (keys-told g.F.Files.tells c.args.options c.in-Some.place c.in-Some.is told)) c.keys_of.ensures.comes
 
 pub returns-in-Some-clause-cause : goal.returns-in-Some-clause-cause
 returns-in-Some-clause-cause g c =
@@ -45,3 +46,6 @@ returns-in-Some-clause-taken g c =
 
 pub returns-in-None-clause-taken : goal.returns-in-None-clause-taken
 returns-in-None-clause-taken g c = none-given c.args.options.keys (g.F.Files.state c.args.files.now) c.in-None.is
+
+pub returns-in-Some-clause-files : goal.returns-in-Some-clause-files
+returns-in-Some-clause-files g c = λ told. c.read_word-read.ensures.files (keys-told g.F.Files.tells c.args.options c.in-Some.place c.in-Some.is told)

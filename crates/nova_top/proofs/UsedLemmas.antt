@@ -1,0 +1,65 @@
+-- What the program uses of files and lines is what its session uses, and the files that its words name.
+use Rattle.std.proofs.Common.{◌≡◌, ◌⊎◌, inl, inr, ℕ, Bool, IsTrue, IsSome, is_some, List, [], ◌++◌, length, drop, Option, Some, None, ap, sym, ◌∙◌, subst}
+use Rattle.std.proofs.Math.Seq.{drop-append_seam}
+use Rattle.observations.specs.Observations.{Observation}
+use Rattle.file_traits.specs.State.{FileState}
+use Rattle.host_lines.specs.Traffic.{Answer as LineAnswer}
+use Rattle.host_lines.specs.Told.{ahead_of}
+use Rattle.host_lines.specs.State.{LineState}
+use Rattle.file_commands.specs.Notes.{Note, notes_said}
+use Rattle.command_session.specs.Live.{CommandState, beyond}
+use Rattle.command_words.specs.declared.options.Options.{Options}
+use Rattle.command_words.specs.Words.{options_of}
+use Rattle.scp_script.specs.declared.perform_session.Opening.{Opening}
+use Rattle.scp_script.specs.Session.{State, Session, ComesTo}
+use Rattle.scp_script.specs.Loop.{MayFollow}
+use Rattle.scp_script.specs.Perform.{beginning}
+use Rattle.scp_script.specs.Used.{CourseTold}
+use Rattle.nova_top.specs.Outside.{start_of, opening}
+use Rattle.nova_top.specs.Program.{script_text}
+use Rattle.nova_top.specs.Ends.{HasKeysFile, HasScript}
+use Rattle.nova_top.specs.Used.{ProgramTold, NamesTold}
+use Rattle.nova_top.proofs.ProgramLemmas.{Begun, follows, same-start}
+
+-- ---- the files of the words
+
+pub keys-told : (tells : Bool) (options : Options) (place : ℕ) → options.keys ≡ Some place → NamesTold tells options → IsTrue tells
+unfolding NamesTold
+keys-told tells options place is told = told (inl (ap is_some is))
+
+pub script-told : (tells : Bool) (options : Options) (place : ℕ) → options.script ≡ Some place → NamesTold tells options → IsTrue tells
+unfolding NamesTold
+script-told tells options place is told = told (inr (ap is_some is))
+
+-- files that tell all tell these
+pub names-told : (tells : Bool) (options : Options) → IsTrue tells → NamesTold tells options
+unfolding NamesTold
+names-told tells options told = λ _. told
+
+pub words-named : (tells : Bool) (words : List (List ℕ)) (options : Options) → options_of words ≡ Some options → (HasKeysFile words ⊎ HasScript words → IsTrue tells) → NamesTold tells options
+unfolding NamesTold
+words-named tells words options chosen told = λ some. elim some [
+  | inl keys ↦ told (inl (record { options = options; words_are = chosen; named = keys }))
+  | inr script ↦ told (inr (record { options = options; words_are = chosen; named = script }))
+]
+
+-- ---- the session
+
+pub course-told : (files lines : Bool) (Told : Type 0) (words : List (List ℕ)) (options : Options) (s : CommandState) (o : Opening) (was mid : FileState) (l : LineState) (input : List ℕ) → options_of words ≡ Some options
+    → Begun Told words options s o was mid → Told → ProgramTold files lines words input was.files l
+    → CourseTold files lines (λ whole notes. beginning s (beyond mid.files l whole) o input notes)
+course-told files lines Told words options s o was mid l input chosen begun told used whole notes follow count made at comes =
+    let ahead = ahead_of l.told whole in
+    let kept = notes_said s.notes in
+    let start : List Note → Session = λ n. opening words options s.keys (script_text o) was.files ahead input n in
+    let same = λ (n : List Note). same-start Told words options s o was mid l whole input n begun told in
+    let first = follows words options s.keys (script_text o) was.files ahead input notes (subst (λ (x : Session). MayFollow x.spent x.live notes) (same []) follow) in
+    used.texts whole (kept ++ notes) made at (record {
+      options = options;
+      keys = s.keys;
+      script = script_text o;
+      used = length kept;
+      count = count;
+      starts = ap (λ (c : Option Options). start_of c words was.files (kept ++ notes)) chosen ∙ begun.starts told notes first;
+      comes = subst (λ (x : Session). ComesTo count x made at) (same notes ∙ ap start (sym (drop-append_seam kept notes))) comes;
+    })
