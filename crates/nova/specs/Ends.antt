@@ -1,14 +1,24 @@
 -- What is said of a machine and of notes that the program lets go at its end.
 use Rattle.std.specs.Prelude.{List, Option}
 use Rattle.file_commands.specs.declared.note.FaultNote.{FaultNote}
-use Rattle.file_commands.specs.Notes.{Note}
 use Rattle.nova_machine.specs.Machine.{MachineState}
 
-abbrev pub OfSomeEnd : (Option MachineState → List Note → Type 0) → Type 0
-OfSomeEnd Said = (machine : Option MachineState) × (notes : List Note) × Said machine notes
+-- of one machine and of one list of notes
+abbrev pub OfSomeEnding : (Option MachineState → List FaultNote → Type 0) → Type 0
+OfSomeEnding Said = (machine : Option MachineState) × (faults : List FaultNote) × Said machine faults
 
-abbrev pub OfSomeFaults : (Option MachineState → List FaultNote → Type 0) → Type 0
-OfSomeFaults Said = (machine : Option MachineState) × (faults : List FaultNote) × Said machine faults
-
-abbrev pub OfSomeMachine : (Option MachineState → Type 0) → Type 0
-OfSomeMachine Said = (machine : Option MachineState) × Said machine
+-- all that `simulate` promises of them, by the names of its clauses
+pub record Promised (Outcome Memory Complete Resumed Ports Unopened Measured Notes Whose Unwritten Machine Files Unread : Type 0) : Type 0 where
+  pub outcome : Outcome
+  pub memory : Memory
+  pub complete : Complete
+  pub resumed : Resumed
+  pub ports : Ports
+  pub unopened : Unopened
+  pub measured : Measured
+  pub notes : Notes
+  pub whose : Whose
+  pub unwritten : Unwritten
+  pub machine : Machine
+  pub files : Files
+  pub unread : Unread

@@ -18,7 +18,8 @@ use Rattle.scp_script.specs.Used.{CourseTold}
 use Rattle.nova_top.specs.Outside.{start_of, opening}
 use Rattle.nova_top.specs.Program.{script_text}
 use Rattle.nova_top.specs.Ends.{HasKeysFile, HasScript}
-use Rattle.nova_top.specs.Used.{ProgramTold, NamesTold}
+use Rattle.nova_top.specs.Used.{ProgramTold, NamesTold, ToldIsEnough}
+use Rattle.scp_script.proofs.UsedLemmas.{all-told}
 use Rattle.nova_top.proofs.ProgramLemmas.{Begun, follows, same-start}
 
 -- ---- the files of the words
@@ -63,3 +64,11 @@ course-told files lines Told words options s o was mid l input chosen begun told
       starts = ap (λ (c : Option Options). start_of c words was.files (kept ++ notes)) chosen ∙ begun.starts told notes first;
       comes = subst (λ (x : Session). ComesTo count x made at) (same notes ∙ ap start (sym (drop-append_seam kept notes))) comes;
     })
+
+-- ---- files and lines that tell theirs
+
+pub told-is-enough : ToldIsEnough
+told-is-enough files lines words input named outside told telling = record {
+  names = λ _. told;
+  texts = λ whole notes front at reaches. all-told files lines at told telling;
+}

@@ -23,3 +23,8 @@ pub record ProgramTold (files lines : Bool) (words : List (List ℕ)) (input : L
 -- the first of these, of the words that were read
 unfoldable pub NamesTold : Bool → Options → Type 0
 NamesTold files options = IsSome options.keys ⊎ IsSome options.script → IsTrue files
+
+-- files and lines that tell theirs tell all that is used
+abbrev pub ToldIsEnough : Type 0
+ToldIsEnough =
+    (files lines : Bool) (words : List (List ℕ)) (input : List ℕ) (named : List NamedBytes) (outside : LineState) → IsTrue files → IsTrue lines → ProgramTold files lines words input named outside

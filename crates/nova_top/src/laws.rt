@@ -1,6 +1,7 @@
 ghost use Rattle.nova_top.specs.Laws.{MoreRoomSameEnd, TakesFirstPart, WholeWithoutFaults};
 ghost use Rattle.nova_top.specs.Resumption.{RestoredProgramsGoOn};
 ghost use Rattle.nova_top.specs.ValidLaws.{ProgramStaysValid};
+ghost use Rattle.nova_top.specs.Used.{ToldIsEnough};
 
 /// The law that a console that takes more comes to the same end, where none of its bytes was refused.
 pub fn more_room_same_end()
@@ -28,4 +29,10 @@ pub fn program_stays_valid()
 /// input fails.
 pub fn restored_programs_go_on()
     ensures { RestoredProgramsGoOn }
+{}
+
+/// The law that files that tell their contents, and lines that tell what comes on them, tell all that any program uses
+/// of them.
+pub fn told_is_enough()
+    ensures { ToldIsEnough }
 {}

@@ -9,6 +9,6 @@ mod workload;
 pub use command_words::is_standard;
 pub use laws::{
     console_takes_first_part, more_room_same_end, program_stays_valid, restored_programs_go_on,
-    whole_without_faults,
+    told_is_enough, whole_without_faults,
 };
 pub use program::{Ending, simulate};

@@ -12,3 +12,4 @@ pub mod NoteLemmas
 pub mod WholeLemmas
 pub mod ActionLemmas
 pub mod UsedLemmas
+pub mod SpendingLemmas

@@ -387,8 +387,7 @@ answer-causes (IsOver (Exit status)) sink sink_mid sink_now source source_now a 
 answer-causes (IsOver EndOfInput) sink sink_mid sink_now source source_now a b c s =
     record { console = λ e. absurd (cc); input = λ e. absurd (cc); console_only = λ _. c ∙ a; input_only = λ _. b; exit = tt }
 answer-causes (IsOver FlushFailed) sink sink_mid sink_now source source_now a b c s = absurd c
-answer-causes (IsOver Commands) sink sink_mid sink_now source source_now a b c s =
-    record { console = λ e. absurd (cc); input = λ e. absurd (cc); console_only = λ _. c ∙ a; input_only = λ _. b; exit = tt }
+answer-causes (IsOver Commands) sink sink_mid sink_now source source_now a b c s = absurd c
 answer-causes (IsOver OutOfMemory) sink sink_mid sink_now source source_now a b c s =
     record { console = λ e. absurd (cc); input = λ e. absurd (cc); console_only = λ _. c ∙ a; input_only = λ _. b; exit = tt }
 answer-causes (IsOver Console) sink sink_mid sink_now source source_now a b c s =
@@ -402,7 +401,7 @@ answer-kept GoesOn sink sink_now slots notes old new c = tt
 answer-kept (IsOver (Exit status)) sink sink_now slots notes old new c = tt
 answer-kept (IsOver EndOfInput) sink sink_now slots notes old new c = tt
 answer-kept (IsOver FlushFailed) sink sink_now slots notes old new c = absurd c
-answer-kept (IsOver Commands) sink sink_now slots notes old new c = tt
+answer-kept (IsOver Commands) sink sink_now slots notes old new c = absurd c
 answer-kept (IsOver Console) sink sink_now slots notes old new c = tt
 answer-kept (IsOver Input) sink sink_now slots notes old new c = tt
 answer-kept (IsOver OutOfMemory) sink sink_now slots notes old new c = tt

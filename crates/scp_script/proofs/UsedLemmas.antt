@@ -18,7 +18,7 @@ use Rattle.nova_machine.specs.Comes.{Output, AreFree, AreTold}
 use Rattle.nova_machine.specs.LineChanges.{ports_of, HaveNoPort, AreLinesTold}
 use Rattle.nova_machine.proofs.LineSteps.{first-same}
 use Rattle.command_session.specs.declared.fault.CommandFault.TheVariants.{Console, OutOfMemory}
-use Rattle.command_session.specs.Live.{CommandState, Beyond, live_in}
+use Rattle.command_session.specs.Live.{Live, CommandState, Beyond, live_in}
 use Rattle.command_session.specs.Reply.{Answer}
 use Rattle.command_session.specs.LineEffects.{is_terminal}
 use Rattle.command_session.specs.Nature.{Telling, nature, detach_telling}
@@ -32,7 +32,7 @@ use Rattle.script_text.specs.Lines.{line_cost, first_line}
 use Rattle.scp_script.specs.Lines.{InputEnds, LineComes, arrival}
 use Rattle.scp_script.specs.Scripts.{Script, still_open, cost_of_line, text_of_line, past_line, checked}
 use Rattle.scp_script.specs.Actions.{texts_of}
-use Rattle.scp_script.specs.Session.{State, Session, SessionEnd, Upcoming, Ends, Comes, upcoming, input_end, emptied_in, behind_line, behind_script_line, behind_action}
+use Rattle.scp_script.specs.Session.{State, Session, SessionEnd, InputEnded, FlushFailed, Upcoming, Ends, Comes, upcoming, input_end, emptied_in, behind_line, behind_script_line, behind_action}
 use Rattle.scp_script.specs.declared.progress.CommandLoop.{CommandLoop}
 use Rattle.scp_script.specs.Loop.{session_of}
 use Rattle.scp_script.specs.Used.{FilesTold, PortsTold, LinesTold, UsedTold, telling_of, TextTold, ports_in, EndTold, UpcomingTold, NextTold, CourseTold}
@@ -271,3 +271,27 @@ pub grown : (tells : Bool) (old new : LineState) → (IsTrue tells → IsFirst (
 grown true old new told still = told refl
 grown false old new told still =
     subst (λ (s : LineState). IsFirst (record_in old.told) (record_in s.told)) (sym (still (λ e. absurd (cc)))) (first-same (record_in old.told))
+
+-- ---- files and lines that tell theirs tell all that is used
+
+all-used : (files lines : Bool) (t : Telling) (slots : List (Option Held)) (ports : List (Option ℕ)) → IsTrue files → IsTrue lines → UsedTold files lines t slots ports
+all-used files lines Nothing slots ports told telling = (tt, tt)
+all-used files lines Ported slots ports told telling = (tt, inl telling)
+all-used files lines Listening slots ports told telling = (tt, telling)
+all-used files lines Attached slots ports told telling = (inl told, inl telling)
+all-used files lines Named slots ports told telling = (told, tt)
+all-used files lines Whole slots ports told telling = (told, telling)
+
+all-ended : (lines : Bool) (end : SessionEnd) (ports : List (Option ℕ)) → IsTrue lines → EndTold lines end ports
+all-ended lines InputEnded ports telling = inl telling
+all-ended lines FlushFailed ports telling = inl telling
+all-ended lines end ports telling = tt
+
+all-upcoming : (files lines : Bool) (live : Live) (u : Upcoming) → IsTrue files → IsTrue lines → UpcomingTold files lines live u
+all-upcoming files lines live (Ends end) told telling = all-ended lines end (ports_in live) telling
+all-upcoming files lines live (Comes text behind) told telling =
+    all-used files lines (telling_of (checked behind.texts.scripts (asked text))) live.machine.slots (ports_in live) told telling
+
+pub all-told : (files lines : Bool) (s : Session) → IsTrue files → IsTrue lines → NextTold files lines s
+unfolding NextTold
+all-told files lines s told telling = all-upcoming files lines s.live (upcoming s) told telling

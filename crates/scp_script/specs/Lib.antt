@@ -5,4 +5,5 @@ pub mod Actions
 pub mod Session
 pub mod Loop
 pub mod Used
+pub mod Spending
 pub mod Perform

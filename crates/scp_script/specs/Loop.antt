@@ -113,11 +113,12 @@ Complains tells before text GoesOn after = IsTrue tells → after ≡ before ++ 
 Complains tells before text (IsOver Console) after = IsTrue tells → AddsPart before text after
 Complains tells before text (IsOver finish) after = ⊥
 
--- a text's only fault is the console's, and no text ends the input
+-- a text's only fault is the console's, no text ends the input, and none is done that was not paid
 abbrev pub AnswerCounts : Progress → ℕ → ℕ → Type 0
 AnswerCounts (IsOver Console) sink sink_now = sink_now ≡ raised sink
 AnswerCounts (IsOver Input) sink sink_now = ⊥
 AnswerCounts (IsOver FlushFailed) sink sink_now = ⊥
+AnswerCounts (IsOver Commands) sink sink_now = ⊥
 AnswerCounts (IsOver finish) sink sink_now = sink_now ≡ sink
 AnswerCounts GoesOn sink sink_now = sink_now ≡ sink
 

@@ -10,7 +10,7 @@ use Rattle.scp_script.specs.declared.progress.Finish.TheVariants.{OutOfMemory}
 use Rattle.scp_script.specs.Lines.{reads_left}
 use Rattle.scp_script.specs.Scripts.{Script, first_script}
 use Rattle.scp_script.specs.Actions.{texts_of}
-use Rattle.scp_script.specs.Session.{State, Session, spent_more, asking, course, trace, ComesTo}
+use Rattle.scp_script.specs.Session.{State, Session, asking, course, trace, ComesTo}
 use Rattle.scp_script.specs.Loop.{EndsAs, LetsThrough, NamesEnd, status_of, StopsShort, MayFollow}
 use Rattle.observations.specs.Observations.{Observation, text_of, reads_of, sent_of}
 
@@ -32,10 +32,6 @@ beginning_with state beyond reads prompt budget scripts input notes = record {
 -- the same of an opening
 unfoldable pub beginning : CommandState → Beyond → Opening → List ℕ → List Note → Session
 beginning state beyond opening input notes = beginning_with state beyond opening.reads opening.prompt opening.budget (first_script opening.script opening.arguments.items) input notes
-
--- so many units of the budget were spent, and the number of the last command rose by them, up to where it stands still
-abbrev pub SpendsOf : ℕ → ℕ → ℕ → Type 0
-SpendsOf budget spent now = (paid : ℕ) × (paid ≤ budget) × (now ≡ spent_more spent paid)
 
 -- The whole session, which took the first bytes of the input and left the others. It has used every note.
 pub record IsSession (start : Session) (finish : Finish) (live : Live) (left : List ℕ) (before after : Output) : Type 0 where

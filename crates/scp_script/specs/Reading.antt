@@ -32,11 +32,13 @@ IsReading budget open_ input End budget_now reader left =
 IsReading budget open_ input Unpaid budget_now reader left = (arrival budget open_ input ≡ lines.Unpaid) × AreRead (line_reads budget open_ input) open_ input reader.open_ left
 IsReading budget open_ input Failed budget_now reader left = (made : ℕ) × (made < line_reads budget open_ input) × AreRead made open_ input reader.open_ left
 
--- a line costs a unit at least, told or not, and nothing raises the budget
+-- A line costs a unit at least, told or not, and nothing raises the budget. One is wanted only where none is left.
 abbrev pub Pays : ℕ → Reading → ℕ → Type 0
 Pays budget Line now = now < budget
 Pays budget TooLong now = now < budget
-Pays budget reading now = now ≤ budget
+Pays budget Unpaid now = now ≡ 0
+Pays budget End now = now ≤ budget
+Pays budget Failed now = now ≤ budget
 
 -- whether the next byte of a line costs a unit of the budget, where that many bytes stand before it
 abbrev pub is_charged : ℕ → ℕ → Bool

@@ -18,6 +18,7 @@ ghost use Rattle.scp_script.specs.Session.{prompt_text, spent_more};
 ghost use Rattle.scp_script.specs.Loop.{session_of, NumbersSuffice, Stepped, ProgressCause, PaysFor};
 ghost use Rattle.scp_script.specs.Loop.{AreKept, KeptInLine};
 ghost use Rattle.scp_script.specs.Used.{NextTold};
+ghost use Rattle.scp_script.specs.Spending.{TextCause};
 
 use crate::answers::{answer, deny_line};
 use crate::line_reader::Reading;
@@ -66,6 +67,7 @@ pub fn next_line<U: Unit, C: Source, F: Files, L: Lines, S: Sink>(
     ensures cause { ProgressCause result (S.fault_count out.old) (S.fault_count out.new) (C.fault_count input.old)
         (C.fault_count input.new) }
     ensures pays { PaysFor lines.old.budget result lines.new.budget }
+    ensures ends { TextCause lines.old.reads lines.old.budget result lines.new.budget }
     ensures command { session.new.command
         ≡ spent_more session.old.command (lines.old.budget - lines.new.budget) }
     ensures keeps { AreKept session.old.notes session.new.notes (F.state files.old) (F.state files.new) }
@@ -124,6 +126,7 @@ fn action<U: Unit, F: Files, L: Lines, S: Sink>(
         session.new.machine.lines }
     ensures cause { (source : ℕ) → ProgressCause result (S.fault_count out.old) (S.fault_count out.new) source source }
     ensures pays { PaysFor lines.old.budget result lines.new.budget }
+    ensures ends { TextCause lines.old.reads lines.old.budget result lines.new.budget }
     ensures command { session.new.command
         ≡ spent_more session.old.command (lines.old.budget - lines.new.budget) }
     ensures keeps { AreKept session.old.notes session.new.notes (F.state files.old) (F.state files.new) }
@@ -195,6 +198,7 @@ fn input_line<U: Unit, C: Source, F: Files, L: Lines, S: Sink>(
     ensures cause { ProgressCause result (S.fault_count out.old) (S.fault_count out.new) (C.fault_count input.old)
         (C.fault_count input.new) }
     ensures pays { PaysFor lines.old.budget result lines.new.budget }
+    ensures ends { TextCause lines.old.reads lines.old.budget result lines.new.budget }
     ensures command { session.new.command
         ≡ spent_more session.old.command (lines.old.budget - lines.new.budget) }
     ensures keeps { AreKept session.old.notes session.new.notes (F.state files.old) (F.state files.new) }
@@ -274,6 +278,7 @@ fn script_line<U: Unit, F: Files, L: Lines, S: Sink>(
         session.new.machine.lines }
     ensures cause { (source : ℕ) → ProgressCause result (S.fault_count out.old) (S.fault_count out.new) source source }
     ensures pays { PaysFor lines.old.budget result lines.new.budget }
+    ensures ends { TextCause lines.old.reads lines.old.budget result lines.new.budget }
     ensures command { session.new.command
         ≡ spent_more session.old.command (lines.old.budget - lines.new.budget) }
     ensures keeps { AreKept session.old.notes session.new.notes (F.state files.old) (F.state files.new) }

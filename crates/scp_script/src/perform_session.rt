@@ -13,7 +13,8 @@ ghost use Rattle.command_session.specs.Live.{live_in, beyond};
 ghost use Rattle.command_session.specs.LinesLeft.{LinesLeft};
 ghost use Rattle.scp_script.specs.Loop.{NumbersSuffice, FinishCause, AreKept, KeptCause};
 ghost use Rattle.scp_script.specs.Scripts.{first_script};
-ghost use Rattle.scp_script.specs.Perform.{beginning, SpendsOf, Performed};
+ghost use Rattle.scp_script.specs.Perform.{beginning, Performed};
+ghost use Rattle.scp_script.specs.Spending.{Spends};
 ghost use Rattle.scp_script.specs.Used.{CourseTold};
 
 use crate::command_loop::next_line;
@@ -80,7 +81,7 @@ pub fn perform<U: Unit, C: Source, F: Files, L: Lines, S: Sink>(
         (notes_said session.old.notes) (notes_said session.new.notes) }
     ensures lines { LinesLeft L.tells (L.state lines.old) session.old.machine.lines (L.state lines.new)
         session.new.machine.lines }
-    ensures command { SpendsOf opening.now.budget session.old.command session.new.command }
+    ensures command { Spends opening.now.reads result opening.now.budget session.old.command session.new.command }
     ensures cause { FinishCause result (S.fault_count out.old) (S.fault_count out.new) (C.fault_count input.old)
         (C.fault_count input.new) }
     ensures keeps { AreKept session.old.notes session.new.notes (F.state files.old) (F.state files.new) }

@@ -1,47 +1,34 @@
-use Rattle.std.proofs.Common.{◌≢◌, ℕ, Option, sym, ◌∙◌, subst}
-use Rattle.file_commands.specs.Notes.{notes_said}
-use Rattle.command_session.specs.Live.{beyond}
-use Rattle.command_words.specs.Words.{texts_of}
+use Rattle.std.proofs.Common.{Option, subst}
 use Rattle.nova_machine.specs.Machine.{MachineState}
-use Rattle.nova_top.specs.Ends.{IsOutcome, IsComplete, LinesAtEnd}
+use Rattle.nova_top.specs.Ends.{LinesAtEnd}
 use Rattle.nova.proofs.session.session.Goals as goal
 
 -- of the machine and the notes that are let go
-pub returns-clause-outcome : goal.returns-clause-outcome
-returns-clause-outcome g c = λ source files telling sink other whole first.
+pub returns-clause-ended : goal.returns-clause-ended
+returns-clause-ended g c =
     let ending = c.simulate-ending.result in
-    let notes = notes_said ending.faults.items in (
+    let promised = c.simulate-ending.ensures in (
       ending.machine,
-      notes,
-      subst
-          (λ (status : ℕ). IsOutcome (texts_of c.args.words.now) (g.C.Source.left c.args.input.now) (g.C.Source.left c.simulate-ending.new.input) (g.S.Sink.written c.args.output.now)
-          (g.S.Sink.written c.simulate-ending.new.output) (beyond (g.F.Files.state c.args.files.now).files (g.L.Lines.state c.args.lines.now) whole)
-          (beyond (g.F.Files.state c.simulate-ending.new.files).files (g.L.Lines.state c.simulate-ending.new.lines) whole) status ending.machine notes)
-          (sym c.from.ensures) (c.simulate-ending.ensures.outcome source files telling sink (subst (λ (status : ℕ). status ≢ 103) c.from.ensures other) whole first),
+      ending.faults.items,
+      rw c.from.ensures (record {
+        outcome = promised.outcome;
+        memory = promised.memory;
+        complete = promised.complete;
+        resumed = promised.resumed;
+        ports = promised.ports;
+        unopened = promised.unopened;
+        measured = promised.measured;
+        notes = promised.notes;
+        whose = promised.whose;
+        unwritten = promised.unwritten;
+        machine = promised.machine;
+        files = promised.files;
+        unread = promised.unread;
+      }),
     )
 
-pub returns-clause-memory : goal.returns-clause-memory
-returns-clause-memory g c = λ source files telling sink short whole first.
-    let ending = c.simulate-ending.result in (
-      ending.machine,
-      notes_said ending.faults.items,
-      c.simulate-ending.ensures.memory source files telling sink (sym c.from.ensures ∙ short) whole first,
-    )
-
-pub returns-clause-complete : goal.returns-clause-complete
-returns-clause-complete g c = λ source files telling sink other quiet fed none whole first.
-    let ending = c.simulate-ending.result in (
-      ending.machine,
-      notes_said ending.faults.items,
-      subst
-          (λ (status : ℕ). IsComplete (texts_of c.args.words.now) (g.C.Source.left c.args.input.now) (g.C.Source.left c.simulate-ending.new.input) (g.S.Sink.written c.args.output.now)
-          (g.S.Sink.written c.simulate-ending.new.output) (beyond (g.F.Files.state c.args.files.now).files (g.L.Lines.state c.args.lines.now) whole)
-          (beyond (g.F.Files.state c.simulate-ending.new.files).files (g.L.Lines.state c.simulate-ending.new.lines) whole) status ending.machine)
-          (sym c.from.ensures) (c.simulate-ending.ensures.complete source files telling sink (subst (λ (status : ℕ). status ≢ 103) c.from.ensures other) quiet fed none whole first),
-    )
-
-pub returns-clause-ports : goal.returns-clause-ports
-returns-clause-ports g c = (c.simulate-ending.result.machine, c.simulate-ending.ensures.ports)
+pub returns-clause-no_keys : goal.returns-clause-no_keys
+returns-clause-no_keys g c = rw c.from.ensures c.simulate-ending.ensures.no_keys
 
 pub returns-clause-unasked : goal.returns-clause-unasked
 returns-clause-unasked g c = λ bad.

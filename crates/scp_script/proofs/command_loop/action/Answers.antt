@@ -1,4 +1,4 @@
-use Rattle.std.proofs.Common.{◌≡◌, ◌<◌, ◌-◌, ℕ, List, [], ◌∷◌, refl, ap, sym, ◌∙◌, subst, arith, drop, take, ◌++◌}
+use Rattle.std.proofs.Common.{inl, ◌≡◌, ◌<◌, ◌-◌, ℕ, List, [], ◌∷◌, refl, ap, sym, ◌∙◌, subst, arith, drop, take, ◌++◌}
 use Rattle.file_commands.specs.Notes.{Note, notes_said}
 use Rattle.nova_machine.specs.Comes.{output}
 use Rattle.telnet_lines.specs.Many.{AreApart}
@@ -16,6 +16,7 @@ use Rattle.scp_script.proofs.SessionLemmas.{action-unpaid, asking-action}
 use Rattle.scp_script.proofs.LineLemmas.{text-unpaid}
 use Rattle.scp_script.proofs.NoteLemmas.{has-first, action-text, action-there, action-stepped, over-alone, left-at, same-read, answer-kept}
 use Rattle.scp_script.proofs.PortLemmas.{left-kept}
+use Rattle.scp_script.proofs.SpendingLemmas.{paid-text}
 use Rattle.scp_script.proofs.command_loop.action.Goals as goal
 
 pub returns-then-not-pay-clause-told : goal.returns-then-not-pay-clause-told
@@ -130,3 +131,13 @@ returns-in-Some-clause-still g c = λ untold whole input next.
     c.answer.ensures.still
     (action-used g.F.Files.tells g.L.Lines.tells session paid named lines now input first.action (take c.in-Some.length c.take.new.out) first.others (ap (λ (x : CommandState). x.machine) is)
     (ap (λ (x : CommandLoop). x.texts.scripts) c.pay.ensures.lines) first.is paid_for.0 text next) untold
+
+-- ---- what was spent
+
+pub returns-then-not-pay-clause-ends : goal.returns-then-not-pay-clause-ends
+returns-then-not-pay-clause-ends g c = let unpaid = c.pay.ensures.unpaid c.if-not-pay.true in inl (omega (arith, unpaid.0, unpaid.1))
+
+pub returns-in-Some-clause-ends : goal.returns-in-Some-clause-ends
+returns-in-Some-clause-ends g c =
+    let paid = c.pay.ensures.paid c.if-not-pay.false in
+    paid-text c.args.lines.now.reads c.args.lines.now.budget c.pay.new.lines.budget _ _ c.answer.result (omega (arith, paid.0, paid.1)) c.answer.ensures.counts

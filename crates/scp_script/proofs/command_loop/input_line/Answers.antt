@@ -1,4 +1,4 @@
-use Rattle.std.proofs.Common.{Some, None, ◌≡◌, ◌<◌, [], Ok, Err, refl, ap, sym, ◌∙◌, subst, arith, ◌++◌, List}
+use Rattle.std.proofs.Common.{inl, Some, None, ◌≡◌, ◌<◌, [], Ok, Err, refl, ap, sym, ◌∙◌, subst, arith, ◌++◌, List}
 use Rattle.unit_files.specs.Open.{Around}
 use Rattle.file_commands.specs.Notes.{Note, notes_said}
 use Rattle.scp_parser.specs.declared.fault.ParseFault.TheVariants.{TooLong}
@@ -26,6 +26,7 @@ use Rattle.scp_script.proofs.LineLemmas.{none-read, prompt-refused, budget-spent
 use Rattle.scp_script.proofs.NoteLemmas.{line-stepped, over-alone, input-closed, left-at, never-short, spent-line, answer-kept}
 use Rattle.scp_script.proofs.PortLemmas.{left-kept}
 use Rattle.scp_script.proofs.UsedLemmas.{line-used, end-used, lines-told, still-ended}
+use Rattle.scp_script.proofs.SpendingLemmas.{paid-text}
 use Rattle.scp_script.proofs.command_loop.input_line.Goals as goal
 
 pub returns-in-Err-clause-told : goal.returns-in-Err-clause-told
@@ -305,3 +306,16 @@ returns-in-TooLong-clause-keeps g c =
     let notes = c.args.session.now.notes in
     let files = g.F.Files.state c.args.files.now in
     subst (λ (x : CommandState). AreKept notes x.notes files files) (sym c.read_paid.ensures.rest) (kept-none notes files)
+
+-- ---- what was spent
+
+pub returns-in-Line-clause-ends : goal.returns-in-Line-clause-ends
+returns-in-Line-clause-ends g c =
+    paid-text c.args.lines.now.reads c.args.lines.now.budget c.read_paid.new.lines.budget _ _ c.answer.result c.in-Line.ensures.pays c.answer.ensures.counts
+
+pub returns-in-TooLong-clause-ends : goal.returns-in-TooLong-clause-ends
+returns-in-TooLong-clause-ends g c =
+    paid-text c.args.lines.now.reads c.args.lines.now.budget c.read_paid.new.lines.budget _ _ c.deny_line.result c.in-TooLong.ensures.pays c.deny_line.ensures.counts
+
+pub returns-in-Unpaid-clause-ends : goal.returns-in-Unpaid-clause-ends
+returns-in-Unpaid-clause-ends g c = inl c.in-Unpaid.ensures.pays

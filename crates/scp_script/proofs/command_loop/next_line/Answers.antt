@@ -1,4 +1,4 @@
-use Rattle.std.proofs.Common.{[], ◌∷◌, ap, sym, ◌∙◌, refl, subst, arith}
+use Rattle.std.proofs.Common.{inr, [], ◌∷◌, ap, sym, ◌∙◌, refl, subst, arith}
 use Rattle.file_commands.specs.Notes.{notes_said}
 use Rattle.nova_machine.specs.Comes.{output}
 use Rattle.telnet_lines.specs.Many.{AreApart}
@@ -154,3 +154,8 @@ returns-in-None-clause-still g c = λ source untold whole next.
     let used = subst (λ (x : CommandState). NextTold g.F.Files.tells g.L.Lines.tells (session_of x named (record lines { texts = record lines.texts { scripts = scripts } }) left [])) (sym c.take_room.ensures.rest)
     (told-still g.F.Files.tells g.L.Lines.tells (session_of session named lines left []) scripts (c.is_empty.ensures.0 c.if-not-is_empty.false) (c.in-None.ensures.taken.0 ∙ sym c.in-None.ensures.taken.1) next) in
     c.input_line.ensures.still (source c.if-lines.true) untold whole used
+
+-- ---- what was spent
+
+pub returns-in-None-2-clause-ends : goal.returns-in-None-2-clause-ends
+returns-in-None-2-clause-ends g c = inr (c.if-lines.false, refl)

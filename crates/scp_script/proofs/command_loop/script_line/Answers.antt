@@ -1,4 +1,4 @@
-use Rattle.std.proofs.Common.{◌≡◌, ◌<◌, ◌≤◌, ◌-◌, ℕ, List, [], ◌∷◌, Err, refl, ap, sym, ◌∙◌, subst, arith, ◌++◌}
+use Rattle.std.proofs.Common.{inr, ◌≡◌, ◌<◌, ◌≤◌, ◌-◌, ℕ, List, [], ◌∷◌, Err, refl, ap, sym, ◌∙◌, subst, arith, ◌++◌}
 use Rattle.file_commands.specs.Notes.{Note, notes_said}
 use Rattle.scp_parser.specs.declared.fault.ParseFault.TheVariants.{TooLong}
 use Rattle.command_session.specs.declared.fault.CommandFault.TheVariants.{Parse}
@@ -22,6 +22,7 @@ use Rattle.scp_script.proofs.NoteLemmas.{script-stepped, over-alone, left-at, ne
 use Rattle.scp_script.proofs.WholeLemmas.{kept-none}
 use Rattle.scp_script.proofs.PortLemmas.{left-kept}
 use Rattle.scp_script.proofs.UsedLemmas.{script-used}
+use Rattle.scp_script.proofs.SpendingLemmas.{paid-text}
 use Rattle.scp_script.proofs.command_loop.script_line.Goals as goal
 
 pub returns-then-not-pay-clause-told : goal.returns-then-not-pay-clause-told
@@ -232,3 +233,20 @@ returns-then-not-pay-clause-keeps g c =
     let notes = c.args.session.now.notes in
     let files = g.F.Files.state c.args.files.now in
     subst (λ (x : CommandState). AreKept notes x.notes files files) (sym c.pay.ensures.rest) (kept-none notes files)
+
+-- ---- what was spent
+
+pub returns-then-not-pay-clause-ends : goal.returns-then-not-pay-clause-ends
+returns-then-not-pay-clause-ends g c =
+    let unpaid = c.pay.ensures.unpaid c.if-not-pay.true in
+    inr (record { script = c.args.script; more = c.requires.line; short = omega (arith, unpaid.0, unpaid.1, c.line_cost.ensures) })
+
+pub returns-in-Some-clause-ends : goal.returns-in-Some-clause-ends
+returns-in-Some-clause-ends g c =
+    let paid = c.pay.ensures.paid c.if-not-pay.false in
+    paid-text c.args.lines.now.reads c.args.lines.now.budget c.pay.new.lines.budget _ _ c.answer.result (omega (arith, paid.0, paid.1, c.line_cost.ensures)) c.answer.ensures.counts
+
+pub returns-in-None-clause-ends : goal.returns-in-None-clause-ends
+returns-in-None-clause-ends g c =
+    let paid = c.pay.ensures.paid c.if-not-pay.false in
+    paid-text c.args.lines.now.reads c.args.lines.now.budget c.pay.new.lines.budget _ _ c.deny_line.result (omega (arith, paid.0, paid.1, c.line_cost.ensures)) c.deny_line.ensures.counts

@@ -20,6 +20,7 @@ use Rattle.command_session.specs.Live.{CommandState, beyond}
 use Rattle.scp_script.specs.Loop.{AreKept, session_of}
 use Rattle.scp_script.proofs.WholeLemmas.{ComesSoFar, begun, never-begun, further, over, kept-none, kept-both, causes-behind, kept-since}
 use Rattle.scp_script.proofs.UsedLemmas.{next-told, grown}
+use Rattle.scp_script.proofs.SpendingLemmas.{spent-before}
 use Rattle.scp_script.proofs.perform_session.perform.Goals as goal
 
 pub lines-init : goal.lines-init
@@ -149,14 +150,20 @@ returns-in_default-clause-lines g c = left-same g.L.Lines.tells (g.L.Lines.state
 
 pub returns-in-IsOver-clause-command : goal.returns-in-IsOver-clause-command
 returns-in-IsOver-clause-command g c =
-    let budget = c.args.opening.now.budget in (
-      budget - c.next_line.new.lines.budget,
-      omega arith,
-      omega (arith, c.lines.invariant.command, c.lines.invariant.paid, c.in-IsOver.ensures.command, c.in-IsOver.ensures.pays),
-    )
+    let budget = c.args.opening.now.budget in
+    let left = c.next_line.new.lines.budget in
+    let pays = c.in-IsOver.ensures.pays in
+    let paid = c.lines.invariant.paid in
+    record {
+      paid = budget - left;
+      within = omega arith;
+      number = omega (arith, c.lines.invariant.command, paid, c.in-IsOver.ensures.command, pays);
+      cause = spent-before c.args.opening.now.reads c.lines.texts.reads (c.lines.texts.budget - left) (budget - left) left (budget - (budget - left)) c.in-IsOver.finish c.lines.invariant.reads
+          (omega (arith, paid)) (omega (arith, paid, pays)) c.in-IsOver.ensures.ends;
+    }
 
 pub returns-in_default-clause-command : goal.returns-in_default-clause-command
-returns-in_default-clause-command g c = (0, omega arith, omega arith)
+returns-in_default-clause-command g c = record { paid = 0; within = omega arith; number = omega arith; cause = tt }
 
 pub returns-in-IsOver-clause-cause : goal.returns-in-IsOver-clause-cause
 returns-in-IsOver-clause-cause g c =
