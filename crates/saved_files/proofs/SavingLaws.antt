@@ -12,7 +12,7 @@ use Rattle.file_traits.specs.Lists.{NamedBytes, bytes_of}
 use Rattle.unit_trait.specs.declared.kind.UnitName.{UnitName}
 use Rattle.unit_trait.specs.Kinds.{same_unit}
 use Rattle.unit_trait.proofs.Codes.{same-self}
-use Rattle.unit_files.specs.declared.digest.FileDigest.{FileDigest}
+use Rattle.file_digests.specs.declared.digest.FileDigest.{FileDigest}
 use Rattle.unit_files.specs.declared.faults.UnitFault.{UnitFault}
 use Rattle.unit_files.specs.Attachments.{Attachment, attachment_at, attachments_of, takes_attachment, file_place}
 use Rattle.unit_files.specs.Attachments.{file_units, IsFileName}

@@ -5,7 +5,7 @@ use Rattle.std.specs.List.{AllByRecursion}
 use Rattle.file_traits.specs.Lists.{NamedBytes}
 use Rattle.file_traits.specs.State.{FileState}
 use Rattle.unit_trait.specs.declared.kind.UnitName.{UnitName}
-use Rattle.unit_files.specs.declared.digest.FileDigest.{FileDigest}
+use Rattle.file_digests.specs.declared.digest.FileDigest.{FileDigest}
 use Rattle.unit_files.specs.declared.faults.UnitFault.{UnitFault}
 use Rattle.unit_files.specs.Attachments.{Attachment, Held, takes_attachment, only_writes, is_disk, attachment_at}
 use Rattle.unit_files.specs.Attachments.{held_at}

@@ -1,43 +1,22 @@
 -- A file that is read piece by piece, and the digest of a unit's file behind a writing back.
-use Rattle.std.proofs.Common.{◌≡◌, ℕ, ◌+◌, ◌≤◌, Bool, true, false, List, ◌++◌, length, take, drop, refl, ap, sym, ◌∙◌, arith}
-use Rattle.std.proofs.Common.{Option, Some, None, Result, Ok, Err, inl, subst, if◌then◌else◌}
+use Rattle.std.proofs.Common.{◌≡◌, ℕ, Bool, true, false, List, refl, ap, sym, ◌∙◌, arith, Option, Some, None, Result, Ok, Err, inl, subst, if◌then◌else◌}
 use Rattle.std.specs.Prelude.{IfSome}
-use Rattle.std.proofs.Math.Seq.{take-append-add}
-use Rattle.std.proofs.lemmas.List.{take-append-drop, take-append-le, length-take-le}
 use Rattle.fault_counts.specs.Faults.{raised}
 use Rattle.file_traits.specs.declared.files.FileCall.TheVariants.{Write}
 use Rattle.file_traits.specs.Lists.{NamedBytes, bytes_of, changed}
-use Rattle.file_traits.specs.State.{FileState, content, name_at}
+use Rattle.file_traits.specs.State.{FileState}
 use Rattle.unit_trait.specs.declared.kind.UnitName.{UnitName}
-use Rattle.unit_files.specs.declared.digest.FileDigest.{FileDigest}
+use Rattle.file_digests.specs.declared.digest.FileDigest.{FileDigest}
 use Rattle.unit_files.specs.declared.faults.UnitFault.{UnitFault}
 use Rattle.unit_files.specs.declared.faults.DetachFault.{DetachFault}
 use Rattle.unit_files.specs.declared.faults.DetachFault.TheVariants as detach
 use Rattle.unit_files.specs.Attachments.{Attachment, Held, held_at}
 use Rattle.unit_files.specs.Buffer.{Buffer}
-use Rattle.unit_files.specs.Acts.{Failure, failure_at, is_due_back, piece_of, written_pages, flushed_as, flush_failure, flush_said, flush_files}
-use Rattle.unit_files.specs.Acts.{buffer_flushed, FlushSaid, HasNone, NotFlushed, Flushed}
+use Rattle.unit_files.specs.Acts.{Failure, failure_at, is_due_back, piece_of, written_pages, flushed_as, flush_failure, flush_said, flush_files, buffer_flushed, FlushSaid, HasNone, NotFlushed, Flushed}
 use Rattle.unit_files.specs.Answers.{failure_in, said_of_flush, failure_of_flush}
 use Rattle.unit_files.specs.Causes.{IsQuiet, IsFaultOf, FlushCause}
-use Rattle.unit_files.specs.Digests.{DigestSaid, digest_measured, digest_said, digest_flushed, behind_flush}
+use Rattle.unit_files.specs.Digests.{DigestSaid, digest_measured, digest_said, digest_flushed, behind_flush, buffer_digested, said_of_digest, failure_of_digest, MayDigest, DigestCause}
 use Rattle.unit_files.specs.Shapes.{IsPart}
-use Rattle.unit_files.specs.Digests.{buffer_digested, said_of_digest, failure_of_digest, MayDigest, DigestCause}
-
--- ---- a file is read piece by piece
-
-pub next-piece : (all : List ℕ) (place count : ℕ) (buf rest : List ℕ) → place ≤ length all → count ≤ length buf
-    → take count buf ≡ take count (drop place all)
-    → take place all ++ take count (buf ++ rest) ≡ take (place + count) all
-next-piece all place count buf rest within fits same =
-    let size = length-take-le place all within in
-    ap (λ (l : List ℕ). take place all ++ l) (take-append-le count buf rest fits ∙ same)
-    ∙ sym (take-append-add (take place all) (drop place all) count)
-    ∙ ap (λ (l : List ℕ). take (length (take place all) + count) l) (take-append-drop place all)
-    ∙ ap (λ (n : ℕ). take (n + count) all) size
-
-pub same-content : (a b : FileState) (file : ℕ) → a.files ≡ b.files → a.opened ≡ b.opened
-    → content a file ≡ content b file
-same-content a b file f o = λ i. bytes_of (f i) (name_at (o i) file)
 
 -- ---- behind a writing back that did not fail
 

@@ -8,7 +8,7 @@ use Rattle.file_traits.specs.declared.files.FileCall.TheVariants.{Length, Read, 
 use Rattle.file_traits.specs.Lists.{NamedBytes, bytes_of}
 use Rattle.file_traits.specs.State.{FileState}
 use Rattle.unit_trait.specs.declared.kind.UnitName.{UnitName}
-use Rattle.unit_files.specs.declared.digest.FileDigest.{FileDigest}
+use Rattle.file_digests.specs.declared.digest.FileDigest.{FileDigest}
 use Rattle.unit_files.specs.declared.faults.UnitFault.{UnitFault}
 use Rattle.unit_files.specs.declared.faults.DetachFault.{DetachFault}
 use Rattle.unit_files.specs.declared.faults.DetachFault.TheVariants as detach

@@ -15,9 +15,9 @@ mod reading;
 mod slots;
 
 pub use attached::Attached;
-pub use digest::FileDigest;
 pub use disk::SECTOR_BYTES;
 pub use faults::{AttachFault, ByteAnswer, DetachFault, SectorAnswer, UnitFault};
+pub use file_digests::FileDigest;
 pub use laws::{
     digests_are_of_the_file, flushes_leave_the_copy, sectors_mark_their_pages, sectors_read_back,
 };

@@ -3,7 +3,7 @@ use Rattle.std.proofs.lemmas.List.{length-append, length-take, length-drop}
 use Rattle.file_traits.specs.State.{content}
 use Rattle.whole_files.proofs.Counts.{all-same}
 use Rattle.state_text.specs.Pieces.{IsFed}
-use Rattle.unit_files.proofs.Digests.{next-piece, same-content}
+use Rattle.file_digests.proofs.Pieces.{next-piece, same-content}
 use Rattle.state_commands.proofs.state_reading.feed_file.Goals as goal
 
 pub loop-place-preserved : goal.loop-place-preserved

@@ -3,8 +3,8 @@ use Rattle.std.proofs.lemmas.List.{length-append, length-take, length-drop}
 use Rattle.file_traits.specs.State.{content}
 use Rattle.sha2.specs.Hashers.{Holds256}
 use Rattle.whole_files.proofs.Counts.{all-same}
-use Rattle.unit_files.proofs.Digests.{next-piece, same-content}
-use Rattle.unit_files.proofs.digest.digest_of.Goals as goal
+use Rattle.file_digests.proofs.Pieces.{next-piece, same-content}
+use Rattle.file_digests.proofs.digest.digest_of.Goals as goal
 
 pub loop-place-preserved : goal.loop-place-preserved
 loop-place-preserved g c =

@@ -1,7 +1,7 @@
 use Rattle.std.proofs.Common.{◌≡◌, ◌≤◌, ◌-◌, ℕ, IsTrue, length, take}
 use Rattle.file_traits.specs.State.{content}
 use Rattle.sha2.specs.Hashers.{Holds256}
-use Rattle.unit_files.proofs.digest.digest_of.Given as goal
+use Rattle.file_digests.proofs.digest.digest_of.Given as goal
 
 abbrev pub invariant-loop-place : goal.invariant-loop-place
 invariant-loop-place g l = record {
