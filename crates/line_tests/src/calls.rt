@@ -42,6 +42,7 @@ fn is_sent(lines: &mut MemLines) -> bool {
     lines.limit_send(1);
     let limited = lines.send(ConnId(1), b"ef", 9);
     lines.hang_up(ConnId(1));
+    lines.hang_up(ConnId(1));
     let behind_end = lines.send(ConnId(1), b"g", 9);
     (to_one, to_gone, limited, behind_end) == (Ok(2), Ok(0), Ok(1), Ok(0))
 }
