@@ -27,6 +27,7 @@ exact-both gives first second old mid new a b = record {
       ∙ sym (raised-both (noted file first) (noted file second) (old.faults file)) ∙ sym (ap (λ (n : ℕ). raised_by n (old.faults file)) (noted-append file first second));
   ids = let one = a.ids in let two = b.ids in omega (arith, one, two);
 }
+
 pub exact-none : (gives : Bool) (s : FileState) → AreExact gives [] s s
 exact-none gives s = record { files = λ file none. refl; ids = omega arith }
 
