@@ -48,8 +48,9 @@ pub struct Opening {
 /// which it came. Where the input ends, all units lose their files, or all keep them where what the disk holds can't be
 /// written back.
 ///
-/// The notes that it keeps are those of the calls on files that failed in it, one for each, but for the closings of files
-/// that a refused ATTACH or RESTORE has opened itself. Memory is taken for those of a command before its line is read.
+/// The notes that it keeps are those of the calls on files that failed in it, one for each, but for the closings of
+/// files that a refused ATTACH or RESTORE has opened itself. Memory is taken for those of a command before its line is
+/// read.
 ///
 /// The machine has the ten units of a standard one, and keeps them.
 ///
