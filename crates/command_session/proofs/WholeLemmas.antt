@@ -504,7 +504,7 @@ both-counted whose stamp done missing failed closing old new shape early rises =
 }
 
 -- and no call that failed is without a note
-both-exact : (whose : Subject) (stamp : Stamp) (done : ℕ) (missing : Bool) (failed closing : Option FailedCall) (old new : FileState) → Rises missing failed closing old new
+pub both-exact : (whose : Subject) (stamp : Stamp) (done : ℕ) (missing : Bool) (failed closing : Option FailedCall) (old new : FileState) → Rises missing failed closing old new
     → AreExact false (both_notes whose stamp done failed closing) old new
 both-exact whose stamp done missing failed closing old new rises =
     exact-when false (both_notes whose stamp done failed closing) old new

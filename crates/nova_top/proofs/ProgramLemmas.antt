@@ -22,8 +22,9 @@ use Rattle.unit_files.specs.Attachments.{Attachment, Held, attachment_at, file_p
 use Rattle.unit_files.specs.Open.{AllOpen, Around}
 use Rattle.file_commands.specs.declared.note.FaultNote.{FaultNote}
 use Rattle.file_commands.specs.Notes.{CommandNote, Note, numbered, Follow, notes_said}
-use Rattle.file_commands.specs.Counts.{one_if, is_of, is_opening, noted, openings_noted, RoseBy, AreCounted}
+use Rattle.file_commands.specs.Counts.{one_if, is_of, is_opening, noted, openings_noted, RoseBy, AreCounted, AreExact}
 use Rattle.file_commands.proofs.Adding.{counted-both}
+use Rattle.file_commands.proofs.Exact.{exact-both, exact-kept, exact-none}
 use Rattle.file_commands.specs.AllUnits.{IsUnwritten}
 use Rattle.file_commands.proofs.Emptying.{unwritten-since}
 use Rattle.expect_actions.specs.KeysFile.{Key}
@@ -37,7 +38,7 @@ use Rattle.command_session.specs.Doing.{IsLate, ComeBehind}
 use Rattle.scp_script.specs.declared.progress.Finish.{Finish}
 use Rattle.scp_script.specs.declared.progress.Finish.TheVariants.{Exit, EndOfInput, FlushFailed, Commands, Console, Input, OutOfMemory}
 use Rattle.scp_script.specs.Session.{Session}
-use Rattle.scp_script.specs.Loop.{IsExitStatus, FinishCause, AreKept, KeptCause, MayFollow, status_of}
+use Rattle.scp_script.specs.Loop.{IsExitStatus, FinishCause, AreKept, KeptAs, KeptCause, MayFollow, status_of}
 use Rattle.scp_script.specs.declared.perform_session.Opening.{Opening}
 use Rattle.scp_script.specs.Perform.{beginning, beginning_with, IsSession, RunsShort, IsPerformed, Performed}
 use Rattle.command_words.specs.declared.options.Options.{Options}
@@ -112,7 +113,7 @@ pub record Begun (Told : Type 0) (words : List (List ℕ)) (options : Options) (
   pub files : Told → new.files ≡ old.files
   pub opens : OpensAs words options o
   pub starts : Told → StartsWith words options old.files (notes_said s.notes) (Begins options s.keys (script_text o))
-  pub keeps : AreKept [] s.notes old new
+  pub keeps : KeptAs false [] s.notes old new
 
 -- a session as it was made
 pub record Made (units : List UnitState) (options : Options) (s : CommandState) : Type 0 where
@@ -133,7 +134,7 @@ workload-slots (Some number) m = refl
 -- with what the files of the words say, and its workload
 pub begun-files : (Told : Type 0) (words : List (List ℕ)) (options : Options) (units : List UnitState) (i s : CommandState) (m : MachineState) (keys : List Key) (o : Opening) (notes : List FaultNote) (spare : ℕ) (old new : FileState)
     → Made units options s → i ≡ s → m ≡ with_workload options.workload i.machine → (Told → StartsWith words options old.files (notes_said notes) (Begins options keys (script_text o))) → OpensAs words options o
-    → (Told → new.files ≡ old.files) → new.opened ≡ old.opened → AreKept [] notes old new
+    → (Told → new.files ≡ old.files) → new.opened ≡ old.opened → KeptAs false [] notes old new
     → Begun Told words options (record { machine = m; watch = i.watch; keys = keys; limit = i.limit; notes = notes; command = i.command; spare = spare }) o old new
 begun-files Told words options units i s m keys o notes spare old new made same filled starts opens files opened keeps =
     let whole : m ≡ with_workload options.workload s.machine = filled ∙ ap (λ (u : CommandState). with_workload options.workload u.machine) same in
@@ -532,15 +533,32 @@ no-notes (n ∷ items) old new counted none = absurd (by-file n.file refl)
         let one : one_if (is_of id.0 n.file) ≡ 1 = ap (λ (f : Option FileId). one_if (is_of id.0 f)) is ∙ ap one_if (eq-eqb id.0 id.0 refl) in
         none.0 id.0 (rose-some (noted id.0 (n ∷ items)) (old.faults id.0) (new.faults id.0) (omega (arith, one)) (counted.files id.0))
 
-pub kept-counted : (notes items : List FaultNote) (old mid new : FileState) → AreKept [] notes old mid → AreKept notes items mid new → AreCounted items old new
+pub kept-counted : (notes items : List FaultNote) (old mid new : FileState) → KeptAs false [] notes old mid → AreKept notes items mid new → AreCounted items old new
 kept-counted notes items old mid new first second =
     let all = counted-both first.kept second.kept old mid new first.counted second.counted in
     subst (λ (l : List FaultNote). AreCounted l old new) (sym (second.added ∙ ap (λ (l : List FaultNote). l ++ second.kept) first.added)) all
 
 -- those of a file that was refused
-pub refused-counted : (before notes items : List FaultNote) (old new : FileState) → before ≡ [] → items ≡ notes → AreKept before notes old new → AreCounted items old new
+pub refused-counted : (before notes items : List FaultNote) (old new : FileState) → before ≡ [] → items ≡ notes → KeptAs false before notes old new → AreCounted items old new
 refused-counted before notes items old new none same kept =
     subst (λ (l : List FaultNote). AreCounted l old new) (sym (same ∙ kept.added ∙ ap (λ (l : List FaultNote). l ++ kept.kept) none)) kept.counted
+
+-- and each call that failed has its own, but for the closing of a file that was given back
+pub kept-exact : (notes items : List FaultNote) (machine : Option MachineState) (old mid new : FileState) → KeptAs false [] notes old mid → AreKept notes items mid new → IsTrue (is_some machine)
+    → AreExact (is_some machine) items old new
+kept-exact notes items machine old mid new first second there =
+    let all = exact-both true first.kept second.kept old mid new (exact-kept true first.kept old mid first.exact) second.exact in
+    subst (λ (b : Bool). AreExact b items old new) (sym there)
+    (subst (λ (l : List FaultNote). AreExact true l old new) (sym (second.added ∙ ap (λ (l : List FaultNote). l ++ second.kept) first.added)) all)
+
+pub no-exact : (items : List FaultNote) (machine : Option MachineState) (s : FileState) → items ≡ [] → AreExact (is_some machine) items s s
+no-exact items machine s none = subst (λ (l : List FaultNote). AreExact (is_some machine) l s s) (sym none) (exact-none (is_some machine) s)
+
+pub refused-exact : (before notes items : List FaultNote) (machine : Option MachineState) (old new : FileState) → before ≡ [] → items ≡ notes → KeptAs false before notes old new → machine ≡ None
+    → AreExact (is_some machine) items old new
+refused-exact before notes items machine old new none same kept never =
+    subst (λ (m : Option MachineState). AreExact (is_some m) items old new) (sym never)
+    (subst (λ (l : List FaultNote). AreExact false l old new) (sym (same ∙ kept.added ∙ ap (λ (l : List FaultNote). l ++ kept.kept) none)) kept.exact)
 
 pub complete-answer : (words : List (List ℕ)) (input left before after : List ℕ) (old new : Beyond) (status : ℕ) (machine : Option MachineState) (items : List FaultNote) (was now : FileState)
     → (status ≢ 102) × (status ≢ 106) → AreCounted items was now → NoneFailed was now
@@ -567,7 +585,7 @@ unwritten-finish Input m notes old new small is kept = absurd (omega (arith, is)
 unwritten-finish OutOfMemory m notes old new small is kept = absurd (omega (arith, is))
 
 -- since before its files of the words were read
-pub unwritten-whole : (machine : Option MachineState) (notes before before' : List FaultNote) (old mid new : FileState) → AreKept before before' old mid → KeptUnwritten machine notes mid new
+pub unwritten-whole : (machine : Option MachineState) (notes before before' : List FaultNote) (old mid new : FileState) → KeptAs false before before' old mid → KeptUnwritten machine notes mid new
     → KeptUnwritten machine notes old new
 unwritten-whole None notes before before' old mid new a k = k
 unwritten-whole (Some m) notes before before' old mid new a k = unwritten-since m.slots notes old mid new (λ file. (a.counted.files file).0) k

@@ -25,6 +25,7 @@ use Rattle.command_session.specs.WholeCalls.{both_notes}
 use Rattle.command_session.proofs.WholeLemmas.{read-claims}
 use Rattle.command_session.proofs.OwnFileLemmas.{whole-own}
 use Rattle.file_commands.proofs.Adding.{noted-append, openings-append, counted-both}
+use Rattle.file_commands.proofs.Exact.{exact-both, exact-when}
 use Rattle.file_commands.proofs.Causes.{rose-one}
 use Rattle.whole_files.specs.declared.whole.FailedCall.{FailedCall}
 use Rattle.whole_files.specs.declared.whole.Whole.{Whole}
@@ -34,7 +35,7 @@ use Rattle.whole_files.specs.Whole.{whole_act}
 use Rattle.whole_files.specs.Claims as claims
 use Rattle.whole_files.specs.Claims.{said_of_bytes, call_of, claimed, ComesBefore, HasShape, raised_by, claims_of, claims_on, is_opening, opening_counted}
 use Rattle.expect_actions.specs.KeysFile.{Key}
-use Rattle.scp_script.specs.Loop.{AreKept}
+use Rattle.scp_script.specs.Loop.{KeptAs}
 use Rattle.command_words.specs.declared.options.Options.{Options}
 use Rattle.nova_top.specs.declared.word_files.Refusal.{Refusal}
 use Rattle.nova_top.specs.declared.word_files.Refusal.TheVariants as refused
@@ -85,11 +86,13 @@ noted-claim whose (Some f) file = by-file f.file
     by-file None = refl
     by-file (Some id) = test-one (id.0 == file)
 
+noted-both : (whose : Subject) (w : Whole) (file : ℕ) → noted file (noted_call whose w.failed ++ noted_call whose w.closing) ≡ claims_on w file
+noted-both whose w file =
+    noted-append file (noted_call whose w.failed) (noted_call whose w.closing) ∙ (λ i. noted-claim whose w.failed file i + noted-claim whose w.closing file i)
+
 files-rose : (whose : Subject) (w : Whole) (file before now : ℕ) → now ≡ raised_by (claims_on w file) before → RoseBy (noted file (noted_call whose w.failed ++ noted_call whose w.closing)) before now
 files-rose whose w file before now is =
-    let many : noted file (noted_call whose w.failed ++ noted_call whose w.closing) ≡ claims_on w file =
-    noted-append file (noted_call whose w.failed) (noted_call whose w.closing) ∙ (λ i. noted-claim whose w.failed file i + noted-claim whose w.closing file i) in
-    subst (λ (n : ℕ). RoseBy n before now) (sym many) (subst (λ (n : ℕ). RoseBy (claims_on w file) before n) (sym is) (rose-by (claims_on w file) before))
+    subst (λ (n : ℕ). RoseBy n before now) (sym (noted-both whose w file)) (subst (λ (n : ℕ). RoseBy (claims_on w file) before n) (sym is) (rose-by (claims_on w file) before))
 
 open-one : (whose : Subject) (f : Option FailedCall) → IfSome f (λ f. ComesBefore f.call f.file) → openings_noted (noted_call whose f) ≡ one_if (is_opening f)
 open-one whose None before = refl
@@ -132,8 +135,9 @@ openings-rose whose w tells before now shape is =
     subst (λ (n : ℕ). RoseBy n before now) (sym many) (subst (λ (n : ℕ). RoseBy (one_if (is_opening w.failed) + 0) before n) (sym is) (by-test (is_opening w.failed) _ before))
 
 pub reads-kept : (whose : Subject) (kept one two : List FaultNote) (w : Whole) (tells : Bool) (old new : FileState) → one ≡ kept ++ noted_call whose w.failed → two ≡ one ++ noted_call whose w.closing → HasShape w
-    → ((file : ℕ) → new.faults file ≡ raised_by (claims_on w file) (old.faults file)) → new.open_faults ≡ (if opening_counted tells w then raised old.open_faults else old.open_faults) → AreKept kept two old new
-reads-kept whose kept one two w tells old new first second shape files openings = record {
+    → ((file : ℕ) → new.faults file ≡ raised_by (claims_on w file) (old.faults file)) → new.open_faults ≡ (if opening_counted tells w then raised old.open_faults else old.open_faults) → old.given ≤ new.given
+    → KeptAs false kept two old new
+reads-kept whose kept one two w tells old new first second shape files openings ids = record {
   kept = noted_call whose w.failed ++ noted_call whose w.closing;
   added = two-kept whose kept one two w first second;
   counted = record {
@@ -141,6 +145,8 @@ reads-kept whose kept one two w tells old new first second shape files openings 
     openings = openings-rose whose w tells old.open_faults new.open_faults shape openings;
     possible = possible-both (noted_call whose w.failed) (noted_call whose w.closing) (possible-read whose w.failed) (possible-read whose w.closing);
   };
+  exact = exact-when false (noted_call whose w.failed ++ noted_call whose w.closing) old new
+      (λ file. files file ∙ ap (λ (n : ℕ). raised_by n (old.faults file)) (sym (noted-both whose w file))) ids;
 }
 
 -- the notes are of the file that was opened
@@ -263,9 +269,10 @@ script-copied {E} words options place (Err e) some same = tt
 
 -- ---- both files
 
-pub kept-both : (first second third : List FaultNote) (old mid new : FileState) → first ≡ [] → AreKept first second old mid → AreKept second third mid new → AreKept [] third old new
+pub kept-both : (first second third : List FaultNote) (old mid new : FileState) → first ≡ [] → KeptAs false first second old mid → KeptAs false second third mid new → KeptAs false [] third old new
 kept-both first second third old mid new none a b = record {
   kept = a.kept ++ b.kept;
   added = b.added ∙ ap (λ (l : List FaultNote). l ++ b.kept) (a.added ∙ ap (λ (l : List FaultNote). l ++ a.kept) none);
   counted = counted-both a.kept b.kept old mid new a.counted b.counted;
+  exact = exact-both false a.kept b.kept old mid new a.exact b.exact;
 }

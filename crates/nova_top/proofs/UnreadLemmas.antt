@@ -20,7 +20,7 @@ use Rattle.command_session.specs.WholeCalls.{whole_answer}
 use Rattle.command_session.proofs.WholeLemmas.{read-keeps}
 use Rattle.scp_script.specs.declared.progress.Finish.{Finish}
 use Rattle.scp_script.specs.declared.progress.Finish.TheVariants as finish
-use Rattle.scp_script.specs.Loop.{FinishCause, AreKept, status_of}
+use Rattle.scp_script.specs.Loop.{FinishCause, KeptAs, status_of}
 use Rattle.command_words.specs.declared.options.Options.{Options}
 use Rattle.nova_top.specs.declared.word_files.Refusal.{Refusal}
 use Rattle.nova_top.specs.declared.word_files.Refusal.TheVariants.{Unopened, BadKeys, OutOfMemory}
@@ -45,11 +45,11 @@ pub word-cause : (tells : Bool) (whose : Subject) (name name' : List ℕ) (kept 
     → one ≡ kept ++ noted_call whose w.failed → two ≡ one ++ noted_call whose w.closing → name' ≡ name → HasShape w
     → ((file : ℕ) → new.faults file ≡ raised_by (claims_on w file) (old.faults file))
     → new.open_faults ≡ (if opening_counted tells w then raised old.open_faults else old.open_faults)
-    → WholeCause tells name' w.bytes old new → WordCause tells whose name w.bytes kept two old new
-word-cause tells whose name name' kept one two w old new first second same shape counts openings cause =
+    → old.given ≤ new.given → WholeCause tells name' w.bytes old new → WordCause tells whose name w.bytes kept two old new
+word-cause tells whose name name' kept one two w old new first second same shape counts openings ids cause =
     let keeps : Keeps 0 0 tells (whole_answer whose (script_of false false) w.bytes) kept two old new =
     read-keeps whose 0 0 tells (script_of false false) w (whole_answer whose (script_of false false) w.bytes) kept two old new (λ bytes notes shut. shut) refl shape
-    (record { counts = counts; openings = openings })
+    (record { counts = counts; openings = openings; ids = ids })
     (two-kept whose kept one two w first second ∙ ap (λ (l : List FaultNote). kept ++ l) (noted-as whose w.failed w.closing)) in
     record {
       more = keeps.kept;
@@ -207,7 +207,7 @@ pub record KeysTaken (tells : Bool) (words : List (List ℕ)) (options : Options
 
 pub keys-taken : {T : Type 0} (tells : Bool) (words : List (List ℕ)) (options : Options) (value : T) (kept kept' : List FaultNote) (old mid : FileState) → kept ≡ []
     → TakesCause tells subject.Keys (keys_name words options) (Ok value) kept kept' old mid → AddsClosings kept kept' → (IsTrue tells → mid.files ≡ old.files)
-    → AreKept kept kept' old mid → mid.given ≡ old.given + keys_ids options.keys → KeysTaken tells words options kept kept' old mid
+    → KeptAs false kept kept' old mid → mid.given ≡ old.given + keys_ids options.keys → KeysTaken tells words options kept kept' old mid
 keys-taken {T} tells words options value kept kept' old mid none cause closings same keeps given = record {
   none = none;
   fits = taken-fits tells subject.Keys (keys_name words options) value kept kept' old old mid (λ _. refl) cause;

@@ -1,5 +1,5 @@
 ghost use Rattle.std.specs.Prelude.{◌≡◌, ◌≢◌, ◌≤◌, ◌^◌, ◌∷◌, List, [], map, Option, None};
-ghost use Rattle.std.specs.Prelude.{true, false, IsTrue, IsSome, string_bytes};
+ghost use Rattle.std.specs.Prelude.{true, false, IsTrue, IsSome, is_some, string_bytes};
 ghost use Rattle.std.specs.List.{AllByRecursion};
 ghost use Rattle.fault_counts.specs.Faults.{Rose, CountsFault};
 ghost use Rattle.observations.specs.Status.{number_of};
@@ -8,7 +8,7 @@ ghost use Rattle.file_traits.specs.State.{Opened};
 ghost use Rattle.unit_files.specs.Attachments.{Held, no_files};
 ghost use Rattle.unit_files.specs.Open.{AllOpen, Around};
 ghost use Rattle.file_commands.specs.Notes.{notes_said};
-ghost use Rattle.file_commands.specs.Counts.{AreCounted};
+ghost use Rattle.file_commands.specs.Counts.{AreCounted, AreExact};
 ghost use Rattle.file_commands.specs.OwnFiles.{IsOwnNote, AreOwn};
 ghost use Rattle.host_lines.specs.Traffic.{Answer as LineAnswer};
 ghost use Rattle.host_lines.specs.Told.{IsFirst, record_in};
@@ -57,8 +57,8 @@ pub struct Ending<U: Unit> {
     pub status: u8,
     /// The machine as it was left, where there was one. Files that are still attached to it are still open.
     pub machine: Option<Machine<U>>,
-    /// The calls on files that failed, in order, but for the closings of files that a refused ATTACH or RESTORE had
-    /// opened for units.
+    /// The calls on files that failed, in order, but for the closings of files that a refused ATTACH or RESTORE has
+    /// opened itself.
     pub faults: Vec<FaultNote>,
 }
 
@@ -126,6 +126,7 @@ pub fn simulate<U: Unit, C: Source, S: Sink, F: Files, L: Lines>(
     ensures measured { result.status ≡ 103 → AreMeasured F.tells (texts_of words.now) result.machine
         (F.state files.old) (F.state files.new) }
     ensures notes { AreCounted result.faults.items (F.state files.old) (F.state files.new) }
+    ensures exact { AreExact (is_some result.machine) result.faults.items (F.state files.old) (F.state files.new) }
     ensures whose { AllByRecursion (IsOwnNote no_files (F.state files.old) (F.state files.new)) result.faults.items }
     ensures unwritten { result.status ≡ 107
         → KeptUnwritten result.machine result.faults.items (F.state files.old) (F.state files.new) }

@@ -1,13 +1,13 @@
 // The files that the words name: the keys file and the script.
 ghost use Rattle.std.specs.Prelude.{◌≡◌, ◌≢◌, ◌+◌, ◌<◌, ◌≤◌, ◌++◌, ℕ, List, [], IsTrue, IfOk, IfErr, IfSome, option_map, is_none, Err};
-ghost use Rattle.std.specs.Prelude.{string_bytes, length, get_or, vec_len, vec_capacity};
+ghost use Rattle.std.specs.Prelude.{false, string_bytes, length, get_or, vec_len, vec_capacity};
 ghost use Rattle.unit_files.specs.Attachments.{no_files};
 ghost use Rattle.file_commands.specs.Notes.{notes_said};
 ghost use Rattle.file_commands.specs.OwnFiles.{AreOwn};
 ghost use Rattle.file_commands.specs.declared.note.Subject.TheVariants as subject;
 ghost use Rattle.whole_files.specs.Whole.{longest_file};
 ghost use Rattle.whole_files.specs.Claims.{said_of_bytes};
-ghost use Rattle.scp_script.specs.Loop.{AreKept};
+ghost use Rattle.scp_script.specs.Loop.{KeptAs};
 ghost use Rattle.command_words.specs.Words.{texts_of, keys_name, script_name, script_words, FilesAreNamed};
 ghost use Rattle.nova_top.specs.Outside.{keys_from, taken_keys, script_from, taken_script};
 ghost use Rattle.nova_top.specs.Program.{noted_call, ReadsFile, ComesOf, Takes, RefusalCause, as_file, BeginsAs};
@@ -65,7 +65,7 @@ pub fn begin<F: Files>(
     ensures cause { IfErr result (RefusalCause (texts_of words.now) options) }
     ensures files { NamesTold F.tells options → (F.state files.new).files ≡ (F.state files.old).files }
     ensures opened { (F.state files.new).opened ≡ (F.state files.old).opened }
-    ensures keeps { AreKept [] notes.new.items (F.state files.old) (F.state files.new) }
+    ensures keeps { KeptAs false [] notes.new.items (F.state files.old) (F.state files.new) }
     ensures whose { AreOwn no_files no_files [] notes.new.items (F.state files.old) (F.state files.new) }
     ensures closings { result ≡ Err OutOfMemory → AreWordClosings (notes_said notes.new.items) }
     ensures unread { BeginsCause F.tells (texts_of words.now) options result notes.new.items (F.state files.old)
@@ -138,7 +138,7 @@ fn take_keys<F: Files>(
     ensures room { vec_len notes.new + vec_capacity notes.old ≤ vec_len notes.old + 2 + vec_capacity notes.new }
     ensures files { NamesTold F.tells options → (F.state files.new).files ≡ (F.state files.old).files }
     ensures opened { (F.state files.new).opened ≡ (F.state files.old).opened }
-    ensures keeps { AreKept notes.old.items notes.new.items (F.state files.old) (F.state files.new) }
+    ensures keeps { KeptAs false notes.old.items notes.new.items (F.state files.old) (F.state files.new) }
     ensures whose { AreOwn no_files no_files notes.old.items notes.new.items (F.state files.old) (F.state files.new) }
     ensures closings { IsUnrefused result → AddsClosings notes.old.items notes.new.items }
     ensures unread { TakesCause F.tells subject.Keys (keys_name (texts_of words.now) options) result notes.old.items
@@ -172,7 +172,7 @@ fn take_script<F: Files>(
     ensures cause { IfErr result (RefusalCause (texts_of words.now) options) }
     ensures files { NamesTold F.tells options → (F.state files.new).files ≡ (F.state files.old).files }
     ensures opened { (F.state files.new).opened ≡ (F.state files.old).opened }
-    ensures keeps { AreKept notes.old.items notes.new.items (F.state files.old) (F.state files.new) }
+    ensures keeps { KeptAs false notes.old.items notes.new.items (F.state files.old) (F.state files.new) }
     ensures whose { AreOwn no_files no_files notes.old.items notes.new.items (F.state files.old) (F.state files.new) }
     ensures closings { IsUnrefused result → AddsClosings notes.old.items notes.new.items }
     ensures unread { TakesCause F.tells subject.Script (script_name (texts_of words.now) options) result
@@ -202,7 +202,7 @@ fn read_word<F: Files>(
     ensures room { vec_len notes.new + vec_capacity notes.old ≤ vec_len notes.old + 2 + vec_capacity notes.new }
     ensures files { IsTrue F.tells → (F.state files.new).files ≡ (F.state files.old).files }
     ensures opened { (F.state files.new).opened ≡ (F.state files.old).opened }
-    ensures keeps { AreKept notes.old.items notes.new.items (F.state files.old) (F.state files.new) }
+    ensures keeps { KeptAs false notes.old.items notes.new.items (F.state files.old) (F.state files.new) }
     ensures whose { AreOwn no_files no_files notes.old.items notes.new.items (F.state files.old) (F.state files.new) }
     ensures closings { result ≢ Err whole_faults.Failed → AddsClosings notes.old.items notes.new.items }
     ensures unread { WordCause F.tells whose (string_bytes name.now) result notes.old.items notes.new.items

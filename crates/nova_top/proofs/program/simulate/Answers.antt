@@ -22,7 +22,7 @@ use Rattle.command_words.specs.declared.options.Options.{Options}
 use Rattle.std.proofs.Common.{String, Global}
 use Rattle.nova_top.specs.Workload.{with_workload}
 use Rattle.nova_top.proofs.ProgramLemmas.{Begun, Made, begun-files, begun-line, new-slots, new-standard, workload-given}
-use Rattle.nova_top.proofs.ProgramLemmas.{usage-answer, files-answer, files-memory, files-status, files-cause, session-answer, memory-answer, session-cause, session-status, refused-status, kept-counted, refused-counted, complete-answer, never-unwritten, denied-unwritten, unwritten-whole}
+use Rattle.nova_top.proofs.ProgramLemmas.{kept-exact, refused-exact, no-exact, usage-answer, files-answer, files-memory, files-status, files-cause, session-answer, memory-answer, session-cause, session-status, refused-status, kept-counted, refused-counted, complete-answer, never-unwritten, denied-unwritten, unwritten-whole}
 use Rattle.nova_top.proofs.PortLemmas.{lines-unasked}
 use Rattle.nova_top.proofs.ResumptionLemmas.{resumes-saved}
 use Rattle.nova_top.proofs.UnreadLemmas.{usage-opened, refused-unopened, refused-keys, refused-measured, session-opened, session-keys, session-measured}
@@ -191,6 +191,22 @@ pub returns-in-Ok-begin-clause-notes : goal.returns-in-Ok-begin-clause-notes
 returns-in-Ok-begin-clause-notes g c =
     kept-counted c.begin.new.notes.items c.run_session.result.faults.items (g.F.Files.state c.args.files.now) (g.F.Files.state c.begin.new.files) (g.F.Files.state c.run_session.new.files) c.begin.ensures.keeps
     (subst (λ (s : CommandState). AreKept s.notes c.run_session.result.faults.items (g.F.Files.state c.begin.new.files) (g.F.Files.state c.run_session.new.files)) c.ready.ensures c.run_session.ensures.keeps)
+
+pub returns-in-Ok-begin-clause-exact : goal.returns-in-Ok-begin-clause-exact
+returns-in-Ok-begin-clause-exact g c =
+    kept-exact c.begin.new.notes.items c.run_session.result.faults.items c.run_session.result.machine (g.F.Files.state c.args.files.now) (g.F.Files.state c.begin.new.files) (g.F.Files.state c.run_session.new.files)
+    c.begin.ensures.keeps
+    (subst (λ (s : CommandState). AreKept s.notes c.run_session.result.faults.items (g.F.Files.state c.begin.new.files) (g.F.Files.state c.run_session.new.files)) c.ready.ensures c.run_session.ensures.keeps)
+    c.run_session.ensures.there
+
+pub returns-in-Err-clause-exact : goal.returns-in-Err-clause-exact
+returns-in-Err-clause-exact g c =
+    refused-exact [] c.begin.new.notes.items c.refuse_files.result.faults.items c.refuse_files.result.machine (g.F.Files.state c.args.files.now) (g.F.Files.state c.begin.new.files) refl
+    (c.refuse_files.ensures.notes ∙ c.notes_of.ensures) c.begin.ensures.keeps c.refuse_files.ensures.machine
+
+pub returns-in_default-clause-exact : goal.returns-in_default-clause-exact
+returns-in_default-clause-exact g c =
+    no-exact c.usage.result.faults.items c.usage.result.machine (g.F.Files.state c.args.files.now) c.usage.ensures.notes
 
 pub returns-in-Ok-begin-clause-complete : goal.returns-in-Ok-begin-clause-complete
 returns-in-Ok-begin-clause-complete g c = λ source used sink other quiet fed none whole first.
