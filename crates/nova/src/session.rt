@@ -1,10 +1,10 @@
-ghost use Rattle.std.specs.Prelude.{◌≡◌, ◌≢◌, List, map, None, IsTrue};
+ghost use Rattle.std.specs.Prelude.{◌≡◌, ◌≢◌, List, map, is_some, None, IsTrue};
 ghost use Rattle.std.specs.List.{AllByRecursion};
 ghost use Rattle.std.specs.Process.{exit_status};
 ghost use Rattle.fault_counts.specs.Faults.{Rose};
 ghost use Rattle.unit_files.specs.Attachments.{no_files};
 ghost use Rattle.file_commands.specs.Notes.{notes_said};
-ghost use Rattle.file_commands.specs.Counts.{AreCounted};
+ghost use Rattle.file_commands.specs.Counts.{AreCounted, AreExact};
 ghost use Rattle.file_commands.specs.OwnFiles.{IsOwnNote};
 ghost use Rattle.host_lines.specs.Traffic.{Answer as LineAnswer};
 ghost use Rattle.host_lines.specs.Told.{IsFirst, record_in};
@@ -75,6 +75,7 @@ pub fn session<U: Unit, C: Source, S: Sink, F: Files, L: Lines>(
         (exit_status result ≡ 103 → AreMeasured F.tells (texts_of words.now) machine (F.state files.old)
         (F.state files.new))
         (AreCounted faults (F.state files.old) (F.state files.new))
+        (AreExact (is_some machine) faults (F.state files.old) (F.state files.new))
         (AllByRecursion (IsOwnNote no_files (F.state files.old) (F.state files.new)) faults)
         (exit_status result ≡ 107 → KeptUnwritten machine faults (F.state files.old) (F.state files.new))
         (MachineThere (texts_of words.now) (exit_status result) machine)

@@ -19,6 +19,7 @@ returns-clause-ended g c =
         unopened = promised.unopened;
         measured = promised.measured;
         notes = promised.notes;
+        exact = promised.exact;
         whose = promised.whose;
         unwritten = promised.unwritten;
         machine = promised.machine;
