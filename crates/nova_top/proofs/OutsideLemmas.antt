@@ -16,7 +16,7 @@ use Rattle.nova_machine.specs.LineChanges.{heard_with}
 use Rattle.command_session.specs.Live.{Beyond}
 use Rattle.scp_script.specs.declared.progress.Finish.{Finish}
 use Rattle.scp_script.specs.declared.progress.Finish.TheVariants.{Exit, EndOfInput, FlushFailed, Commands, Console, Input, OutOfMemory}
-use Rattle.scp_script.specs.Lines.{reads_left}
+use Rattle.session_texts.specs.Lines.{reads_left}
 use Rattle.scp_script.specs.Session.{State, trace}
 use Rattle.scp_script.specs.Loop.{IsExitStatus, LetsThrough, status_of}
 use Rattle.scp_script.specs.Perform.{IsSession}

@@ -43,7 +43,7 @@ use Rattle.scp_script.specs.declared.perform_session.Opening.{Opening}
 use Rattle.scp_script.specs.Perform.{beginning, beginning_with, IsSession, RunsShort, IsPerformed, Performed}
 use Rattle.command_words.specs.declared.options.Options.{Options}
 use Rattle.command_words.specs.Standard.{IsStandard, standard_units}
-use Rattle.scp_script.specs.Actions.{texts_of as waiting_texts}
+use Rattle.session_texts.specs.Actions.{texts_of as waiting_texts}
 use Rattle.command_words.specs.Words.{options_of, texts_of}
 use Rattle.nova_top.specs.Workload.{with_workload}
 use Rattle.nova_top.specs.Outside.{Denial, Begins, Refused, denied, start_of, session_with, opening, usage_text, unopened_text}

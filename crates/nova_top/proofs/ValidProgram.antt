@@ -32,7 +32,7 @@ use Rattle.command_laws.specs.Valid.{IsProgramMachine, ValidLive}
 use Rattle.command_laws.proofs.ValidWatch.{read-bytes}
 use Rattle.command_laws.proofs.ValidMachines.{GivesWhole, whole-bytes, memory-valid}
 use Rattle.unit_list.proofs.Resets.{reset-kinds}
-use Rattle.scp_script.specs.Scripts.{Script}
+use Rattle.session_texts.specs.Scripts.{Script}
 use Rattle.scp_script.specs.Session.{State, trace}
 use Rattle.script_laws.specs.Valid.{ValidScript}
 use Rattle.script_laws.proofs.ValidSessions.{sessions-stay-valid}

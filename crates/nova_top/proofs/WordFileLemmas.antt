@@ -17,7 +17,7 @@ use Rattle.whole_files.specs.Whole.{WholeSaid, whole_act}
 use Rattle.whole_files.specs.Claims.{said_of_bytes}
 use Rattle.expect_actions.specs.KeysFile.{Key}
 use Rattle.scp_script.specs.declared.perform_session.Opening.{Opening}
-use Rattle.scp_script.specs.Scripts.{first_script, begun}
+use Rattle.session_texts.specs.Scripts.{first_script, begun}
 use Rattle.command_words.specs.declared.options.Options.{Options}
 use Rattle.nova_top.specs.declared.word_files.Refusal.{Refusal}
 use Rattle.nova_top.specs.declared.word_files.Beginning.{Beginning}

@@ -17,9 +17,9 @@ use Rattle.expect_actions.specs.Watch.{empty_watch}
 use Rattle.nova_machine.specs.Machine.{MachineState, new_machine}
 use Rattle.nova_machine.specs.Seen.{erased}
 use Rattle.command_session.specs.Live.{Live}
-use Rattle.scp_script.specs.Scripts.{Script, begun}
+use Rattle.session_texts.specs.Scripts.{Script, begun}
 use Rattle.scp_script.specs.Session.{State, Session, trace}
-use Rattle.scp_script.specs.Actions.{texts_of}
+use Rattle.session_texts.specs.Actions.{texts_of}
 use Rattle.command_words.specs.declared.options.Options.{Options}
 use Rattle.command_words.specs.Standard.{standard_units}
 use Rattle.nova_top.specs.Workload.{with_workload, first_text}

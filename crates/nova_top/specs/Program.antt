@@ -20,7 +20,7 @@ use Rattle.command_session.specs.declared.do_file.DoFile.{DoFile}
 use Rattle.scp_script.specs.declared.perform_session.Opening.{Opening}
 use Rattle.scp_script.specs.declared.progress.Finish.{Finish}
 use Rattle.scp_script.specs.Loop.{status_of}
-use Rattle.scp_script.specs.Scripts.{first_script}
+use Rattle.session_texts.specs.Scripts.{first_script}
 use Rattle.nova_top.specs.Ends.{AreWordClosings}
 use Rattle.command_words.specs.declared.options.Options.{Options}
 use Rattle.nova_top.specs.declared.word_files.Refusal.{Refusal}

@@ -6,7 +6,7 @@ use Rattle.command_session.specs.FaultText.{fault_text}
 use Rattle.expect_actions.specs.Actions.{split}
 use Rattle.scp_script.specs.declared.progress.Progress.{Progress}
 use Rattle.scp_script.specs.declared.progress.Progress.TheVariants.{GoesOn}
-use Rattle.scp_script.specs.Actions.{overflows, put_first, overflow_text}
+use Rattle.session_texts.specs.Actions.{overflows, put_first, overflow_text}
 use Rattle.scp_script.specs.Loop.{Complains}
 
 -- they were taken

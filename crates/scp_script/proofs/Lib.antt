@@ -1,11 +1,8 @@
 pub mod TextLemmas
 pub mod PortLemmas
 pub mod UndoneLemmas
-pub mod RoomLemmas
-pub mod EchoLemmas
+pub mod NextLemmas
 pub mod WordLemmas
-pub mod StackLemmas
-pub mod ReadingLemmas
 pub mod SessionLemmas
 pub mod LineLemmas
 pub mod NoteLemmas

@@ -22,9 +22,9 @@ use Rattle.scp_script.specs.declared.progress.Progress.TheVariants.{GoesOn, IsOv
 use Rattle.scp_script.specs.declared.progress.Finish.{Finish}
 use Rattle.scp_script.specs.declared.progress.Finish.TheVariants.{Exit, EndOfInput, FlushFailed, Commands, Console, Input, OutOfMemory}
 use Rattle.script_text.specs.Lines.{line_cost, first_line}
-use Rattle.scp_script.specs.Lines.{InputEnds, Unpaid, LineComes, arrival, line_reads, reads_left}
-use Rattle.scp_script.specs.Reading.{AreRead}
-use Rattle.scp_script.specs.Actions.{Texts, texts_of, texts_behind}
+use Rattle.session_texts.specs.Lines.{InputEnds, Unpaid, LineComes, arrival, line_reads, reads_left}
+use Rattle.session_texts.specs.Reading.{AreRead}
+use Rattle.session_texts.specs.Actions.{Texts, texts_of, texts_behind}
 use Rattle.unit_trait.specs.declared.kind.UnitName.{UnitName}
 use Rattle.scp_script.specs.Session as ends
 use Rattle.scp_script.specs.Session.{emptied_in, input_end, State, Session, Upcoming, SessionEnd, ExitDone, AllDone, InputEnded, BudgetSpent, end_status, state_of, state_at, flushes_in, closed, end_state, Going, rested, Over, Ends, Comes, prompt_text, asking_input, asking, upcoming, text_reply, following, text_step, step, over_by, course, trace}

@@ -7,9 +7,10 @@ use Rattle.file_commands.specs.Notes.{handed}
 use Rattle.command_session.specs.Reply.{Answer}
 use Rattle.command_session.specs.Asked.{Asked, asked}
 use Rattle.script_text.specs.Lines.{line_cost, first_line, command_line}
-use Rattle.scp_script.specs.Lines.{Arrival, InputEnds, Unpaid, LineComes, arrival}
-use Rattle.scp_script.specs.Scripts.{Script, still_open, cost_of_line, text_of_line, echo_text}
-use Rattle.scp_script.specs.Actions.{Texts, texts_of, texts_behind}
+use Rattle.session_texts.specs.Lines.{Arrival, InputEnds, Unpaid, LineComes, arrival}
+use Rattle.session_texts.specs.Scripts.{Script, still_open, cost_of_line, text_of_line, echo_text}
+use Rattle.session_texts.specs.Actions.{Texts, texts_of, texts_behind}
+use Rattle.session_texts.proofs.StackLemmas.{still-none}
 use Rattle.scp_script.specs.Session.{State, Session, SessionEnd, ExitDone, AllDone, InputEnded, FlushFailed, BudgetSpent, end_status, state_of, closed, end_state, Following, Going, rested, Over, Upcoming, Ends, Comes, asking_input, asking_in, asking_at, asking, behind_line, behind_script_line, behind_action, upcoming_of, upcoming_in, upcoming_at, upcoming, text_reply, following, text_step, Step, step_upcoming, step, Course, over_by, after_step, texts, course, trace}
 
 pub going-equal : {s t : Session} → Going s ≡ Going t → s ≡ t
@@ -194,10 +195,6 @@ step-comes s behind text what e c = ap (step_upcoming s) e ∙ ap (text_step (as
 pub step-over : (s : Session) (end : SessionEnd) → upcoming s ≡ Ends end → step s ≡ record { made = asking s; next = Over end (end_state end s) }
 unfolding step
 step-over s end e = ap (step_upcoming s) e
-
-pub still-none : (scripts : List Script) → scripts ≡ [] → still_open scripts ≡ []
-unfolding still_open
-still-none scripts none = ap still_open none
 
 -- a line, where no action waits
 pub upcoming-lines : (s : Session) → s.texts.actions ≡ [] → upcoming s ≡ upcoming_in s (still_open s.texts.scripts)

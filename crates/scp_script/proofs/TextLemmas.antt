@@ -1,23 +1,18 @@
 -- What the text of a line makes: the command's own, and the text of its fault.
-use Rattle.std.proofs.Common.{◌≡◌, ◌⊎◌, ⊎_elim, inl, inr, ℕ, ◌+◌, Bool, true, false, if◌then◌else◌, IsTrue, is_ok, List, [], ◌∷◌, ◌++◌, take, refl, ap, sym, ◌∙◌, append_assoc, append-nil, subst, length, Option, Some, None, Result, Ok, Err}
+use Rattle.std.proofs.Common.{◌≡◌, ◌⊎◌, ⊎_elim, inl, inr, ℕ, ◌+◌, Bool, IsTrue, is_ok, List, [], ◌∷◌, ◌++◌, take, refl, ap, sym, ◌∙◌, append_assoc, append-nil, subst, length, Option, Some, None, Result, Ok, Err}
 use Rattle.observations.specs.Observations.{Observation, Prints, text_of, reads_of, sent_of}
 use Rattle.observations.proofs.CutLemmas.{breaks-here, breaks-before, breaks-behind, before-sent, behind-sent, here-sent}
 use Rattle.observations.proofs.MadeLemmas.{text_of-append, reads_of-append, sent_of-append, stands-before, stands-behind}
-use Rattle.host_lines.specs.State.{LineState}
 use Rattle.host_lines.specs.Told.{Heard}
-use Rattle.telnet_lines.specs.Line.{LineOf}
-use Rattle.telnet_lines.specs.Many.{AreApart}
 use Rattle.nova_machine.specs.declared.machine.Stop.{Stop}
 use Rattle.nova_machine.specs.declared.machine.Stop.TheVariants.{Halt, ChainLimit, UnknownDevice, Break, Expect, Stepped, Limit, UnitEnd, UnitNone, BadImage, Wru, FileFault, ConsoleFault}
 use Rattle.nova_machine.specs.Comes.{Output}
 use Rattle.nova_machine.specs.LineChanges.{heard_with}
 use Rattle.nova_machine.proofs.Hearing.{heard-nothing}
-use Rattle.unit_files.specs.Attachments.{Held}
 use Rattle.file_commands.specs.Notes.{CommandNote, Note}
 use Rattle.script_text.specs.Lines.{lines_of}
 use Rattle.script_text.specs.Labels.{label_place}
-use Rattle.scp_parser.specs.Command.{Request, Attach}
-use Rattle.scp_parser.specs.Command as request
+use Rattle.scp_parser.specs.Command.{Request}
 use Rattle.command_session.specs.declared.next.Next.{Next}
 use Rattle.command_session.specs.declared.do_file.DoFile.{DoFile}
 use Rattle.command_session.specs.declared.next.Next.TheVariants.{Go, Ran, Do, Goto, Exit}
@@ -28,17 +23,15 @@ use Rattle.command_session.specs.Reply.{Answer, Reply, refused, bare_answer}
 use Rattle.command_session.specs.FaultText.{fault_text}
 use Rattle.command_session.specs.Asked.{Asked}
 use Rattle.scp_commands.specs.Effect.{effect, does}
-use Rattle.command_session.specs.LineEffects.{is_terminal}
-use Rattle.command_session.specs.Nature.Telling.{Nothing, Ported}
-use Rattle.command_session.specs.Doing.{IsSaid, IsBrokenOff, Does, Did, told_by, IsTold}
+use Rattle.command_session.specs.Doing.{IsSaid, IsBrokenOff, Does, Did}
 use Rattle.scp_commands.proofs.EffectLemmas.{does-reads}
 use Rattle.scp_script.specs.declared.progress.Progress.{Progress}
 use Rattle.scp_script.specs.declared.progress.Progress.TheVariants.{GoesOn, IsOver}
 use Rattle.scp_script.specs.declared.progress.Finish.TheVariants.{EndOfInput, FlushFailed, Commands, Console, Input, OutOfMemory}
 use Rattle.scp_script.specs.declared.progress.Finish.TheVariants as finish
-use Rattle.scp_script.specs.Scripts.{Script, begun, arguments_of, checked, label_of, or_no_label, label_in, jumped_to, found_answer, settled_answer, settled, behind_failure, is_assertion}
+use Rattle.session_texts.specs.Scripts.{Script, begun, arguments_of, checked, label_of, or_no_label, label_in, jumped_to, found_answer, settled_answer, settled, behind_failure, is_assertion}
 use Rattle.expect_actions.specs.Watch.{WatchState}
-use Rattle.scp_script.specs.Actions.{Texts, texts_of, text_of_stop, put_first, overflow_text, behind_refusal, texts_behind}
+use Rattle.session_texts.specs.Actions.{Texts, texts_of, text_of_stop, put_first, overflow_text, behind_refusal, texts_behind}
 use Rattle.scp_script.specs.Session.{complaint, with_complaint, text_reply}
 use Rattle.scp_script.specs.Loop.{exit_of, IsAnswer, Answers, Complains, AnswerCounts, HasExitStatus, Denies}
 

@@ -1,7 +1,6 @@
 -- What a session uses of files and lines: by its next text, and by a command.
-use Rattle.std.proofs.Common.{◌≡◌, ◌≢◌, ◌⊎◌, inl, inr, ℕ, ◌≤◌, ◌<◌, Bool, true, false, IsTrue, List, [], ◌∷◌, ◌++◌, length, map, Option, Some, None, refl, ap, sym, ◌∙◌, subst, Ok, Err, append-nil, if◌then◌else◌}
+use Rattle.std.proofs.Common.{◌≡◌, ◌≢◌, inl, inr, ℕ, ◌≤◌, ◌<◌, Bool, true, false, IsTrue, List, [], ◌∷◌, ◌++◌, length, map, Option, Some, None, refl, sym, subst, Ok, Err, if◌then◌else◌}
 use Rattle.std.specs.List.{AllByRecursion}
-use Rattle.observations.specs.Observations.{Observation}
 use Rattle.host_lines.specs.Traffic.{Peer, Answer as LineAnswer}
 use Rattle.host_lines.specs.Told.{IsFirst, record_in}
 use Rattle.host_lines.specs.State.{LineState}
@@ -14,29 +13,28 @@ use Rattle.unit_trait.specs.declared.kind.UnitName.{UnitName}
 use Rattle.scp_parser.specs.Command.{Request, Run, Go, Cont, Step, AttachPort, Detach, Disconnect, Exit, Restore}
 use Rattle.nova_machine.specs.Machine.{MachineState}
 use Rattle.nova_machine.specs.Seen.{unnumbered}
-use Rattle.nova_machine.specs.Comes.{Output, AreFree, AreTold}
+use Rattle.nova_machine.specs.Comes.{Output, AreFree}
 use Rattle.nova_machine.specs.LineChanges.{ports_of, HaveNoPort, AreLinesTold}
 use Rattle.nova_machine.proofs.LineSteps.{first-same}
 use Rattle.command_session.specs.declared.fault.CommandFault.TheVariants.{Console, OutOfMemory}
 use Rattle.command_session.specs.Live.{Live, CommandState, Beyond, live_in}
 use Rattle.command_session.specs.Reply.{Answer}
 use Rattle.command_session.specs.LineEffects.{is_terminal}
-use Rattle.command_session.specs.Nature.{Telling, nature, detach_telling}
+use Rattle.command_session.specs.Nature.{Telling, nature}
 use Rattle.command_session.specs.Nature.Telling.{Nothing, Ported, Listening, Attached, Named, Whole}
 use Rattle.command_session.specs.Doing.{IsRefused, told_by, IsTold}
 use Rattle.command_session.specs.LinesLeft.{IsUnlistened}
-use Rattle.command_session.specs.PortAnswers.{LinesStay, DetachesPort, Disconnects, ClosesPort, ClosesAll, detaches_by, DetachesUnit}
+use Rattle.command_session.specs.PortAnswers.{LinesStay, DetachesPort, Disconnects, ClosesPort, ClosesAll, detaches_by}
 use Rattle.command_session.specs.Asked.{Asked, asked}
 use Rattle.scp_commands.specs.LineAnswers.{RunLines, LinesAnswer}
-use Rattle.script_text.specs.Lines.{line_cost, first_line}
-use Rattle.scp_script.specs.Lines.{InputEnds, LineComes, arrival}
-use Rattle.scp_script.specs.Scripts.{Script, still_open, cost_of_line, text_of_line, past_line, checked}
-use Rattle.scp_script.specs.Actions.{texts_of}
-use Rattle.scp_script.specs.Session.{State, Session, SessionEnd, InputEnded, FlushFailed, Upcoming, Ends, Comes, upcoming, input_end, emptied_in, behind_line, behind_script_line, behind_action}
+use Rattle.session_texts.specs.Lines.{InputEnds, LineComes, arrival}
+use Rattle.session_texts.specs.Scripts.{Script, still_open, cost_of_line, text_of_line, past_line, checked}
+use Rattle.session_texts.specs.Actions.{texts_of}
+use Rattle.scp_script.specs.Session.{Session, SessionEnd, InputEnded, FlushFailed, Upcoming, Ends, Comes, upcoming, input_end, emptied_in, behind_line, behind_script_line, behind_action}
 use Rattle.scp_script.specs.declared.progress.CommandLoop.{CommandLoop}
 use Rattle.scp_script.specs.Loop.{session_of}
 use Rattle.scp_script.specs.Used.{FilesTold, PortsTold, LinesTold, UsedTold, telling_of, TextTold, ports_in, EndTold, UpcomingTold, NextTold, CourseTold}
-use Rattle.scp_script.proofs.SessionLemmas.{upcoming-action, upcoming-script, upcoming-input, closing, upcoming-still}
+use Rattle.scp_script.proofs.SessionLemmas.{upcoming-action, upcoming-script, upcoming-input, upcoming-still}
 use Rattle.scp_script.proofs.NoteLemmas.{none-follow}
 use Rattle.scp_script.proofs.WholeLemmas.{ComesSoFar}
 

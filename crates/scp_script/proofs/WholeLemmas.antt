@@ -24,8 +24,8 @@ use Rattle.file_commands.proofs.Exact.{exact-both, exact-every, exact-kept, exac
 use Rattle.scp_script.specs.declared.progress.Progress.TheVariants.{GoesOn, IsOver}
 use Rattle.scp_script.specs.declared.progress.Finish.{Finish}
 use Rattle.scp_script.specs.declared.progress.Finish.TheVariants.{Exit, EndOfInput, FlushFailed, Commands, Console, Input, OutOfMemory}
-use Rattle.scp_script.specs.Lines.{reads_left}
-use Rattle.scp_script.specs.Reading.{AreRead}
+use Rattle.session_texts.specs.Lines.{reads_left}
+use Rattle.session_texts.specs.Reading.{AreRead}
 use Rattle.scp_script.specs.Session.{upcoming, flushes_next, State, Session, step, Going, rested, after_step, course, trace, ComesTo}
 use Rattle.scp_script.specs.Loop.{status_of, finish_of, Finishes, FinishCause, GoesPast, LetsThrough, RunsOut, MayFollow, Progresses, Stepped, AreKept, KeptCause}
 use Rattle.scp_script.specs.Perform.{IsSession, RunsShort, IsPerformed, Performed}

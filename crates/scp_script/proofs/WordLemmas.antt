@@ -5,8 +5,8 @@ use Rattle.std.specs.Prelude.{string_bytes}
 use Rattle.std.specs.declared.string.String.{String}
 use Rattle.std.specs.declared.alloc.Global.{Global}
 use Rattle.command_session.specs.declared.do_file.DoFile.{DoFile}
-use Rattle.scp_script.specs.declared.texts.Texts.{Texts}
-use Rattle.scp_script.specs.Scripts.{Script, begun, first_script}
+use Rattle.session_texts.specs.declared.texts.Texts.{Texts}
+use Rattle.session_texts.specs.Scripts.{Script, begun, first_script}
 
 -- where ten are not there yet
 few-taken : (words : List (List ℕ)) (word : List ℕ) → length (take 10 words) ≢ 10 → take 10 (words ++ word ∷ []) ≡ take 10 words ++ word ∷ []

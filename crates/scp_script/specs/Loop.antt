@@ -36,18 +36,13 @@ use Rattle.scp_script.specs.declared.progress.Finish.{Finish}
 use Rattle.scp_script.specs.declared.progress.Finish.TheVariants.{Exit, EndOfInput, FlushFailed, Commands, Console, Input, OutOfMemory}
 use Rattle.scp_script.specs.declared.progress.Progress.{Progress}
 use Rattle.scp_script.specs.declared.progress.Progress.TheVariants.{GoesOn, IsOver}
-use Rattle.scp_script.specs.Lines.{reads_left}
-use Rattle.scp_script.specs.Reading.{AreRead}
-use Rattle.scp_script.specs.Scripts.{Script, most_scripts, settled}
+use Rattle.session_texts.specs.Lines.{reads_left}
+use Rattle.session_texts.specs.Reading.{AreRead}
+use Rattle.session_texts.specs.Scripts.{Script, most_scripts, settled}
 use Rattle.expect_actions.specs.Watch.{WatchState}
-use Rattle.scp_script.specs.declared.texts.Texts.{Texts as HeldTexts}
-use Rattle.scp_script.specs.Actions.{Texts, texts_of, texts_behind}
+use Rattle.session_texts.specs.Actions.{Texts, coming, texts_behind}
 use Rattle.scp_script.specs.Session as ends
 use Rattle.scp_script.specs.Session.{State, Session, SessionEnd, ExitDone, AllDone, InputEnded, BudgetSpent, Going, rested, asking, with_complaint, Upcoming, Ends, Comes, upcoming, text_reply, flushes_next, step, course, trace}
-
--- the texts that the loop holds
-abbrev pub coming : HeldTexts → Texts
-coming t = texts_of t.actions t.scripts
 
 -- the session that the loop stands in, to which these failing calls are still to come
 abbrev pub session_of : CommandState → Beyond → CommandLoop → List ℕ → List Note → Session

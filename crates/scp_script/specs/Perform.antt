@@ -7,9 +7,9 @@ use Rattle.nova_machine.specs.LineChanges.{heard_with}
 use Rattle.scp_script.specs.declared.perform_session.Opening.{Opening}
 use Rattle.scp_script.specs.declared.progress.Finish.{Finish}
 use Rattle.scp_script.specs.declared.progress.Finish.TheVariants.{OutOfMemory}
-use Rattle.scp_script.specs.Lines.{reads_left}
-use Rattle.scp_script.specs.Scripts.{Script, first_script}
-use Rattle.scp_script.specs.Actions.{texts_of}
+use Rattle.session_texts.specs.Lines.{reads_left}
+use Rattle.session_texts.specs.Scripts.{Script, first_script}
+use Rattle.session_texts.specs.Actions.{texts_of}
 use Rattle.scp_script.specs.Session.{State, Session, asking, course, trace, ComesTo}
 use Rattle.scp_script.specs.Loop.{EndsAs, LetsThrough, NamesEnd, status_of, StopsShort, MayFollow}
 use Rattle.observations.specs.Observations.{Observation, text_of, reads_of, sent_of}

@@ -15,10 +15,10 @@ use Rattle.command_session.specs.FileEffects.{emptied_all, emptied_live}
 use Rattle.command_session.specs.Asked.{Asked, asked}
 use Rattle.scp_commands.specs.Effect.{does}
 use Rattle.command_session.specs.Remains.{flushes_of}
-use Rattle.scp_script.specs.Scripts.{Script, still_open, cost_of_line, text_of_line, echo_text, past_line, checked, settled}
-use Rattle.scp_script.specs.Actions.{Texts, texts_of, text_of_stop, overflow_text, texts_behind}
+use Rattle.session_texts.specs.Scripts.{Script, still_open, cost_of_line, text_of_line, echo_text, past_line, checked, settled}
+use Rattle.session_texts.specs.Actions.{Texts, texts_of, text_of_stop, overflow_text, texts_behind}
 use Rattle.script_text.specs.Lines.{first_line, line_cost, has_lf}
-use Rattle.scp_script.specs.Lines.{Arrival, InputEnds, Unpaid, LineComes, arrival, line_reads}
+use Rattle.session_texts.specs.Lines.{Arrival, InputEnds, Unpaid, LineComes, arrival, line_reads}
 
 -- what an early end of a session shows: what commands work on, and the failing calls that are still to come
 pub record State : Type 0 where

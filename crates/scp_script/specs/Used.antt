@@ -13,7 +13,7 @@ use Rattle.command_session.specs.Live.{Live}
 use Rattle.command_session.specs.Nature.{Telling, nature}
 use Rattle.command_session.specs.Nature.Telling.{Nothing, Ported, Listening, Attached, Named, Whole}
 use Rattle.command_session.specs.Asked.{Asked, asked}
-use Rattle.scp_script.specs.Scripts.{Script, checked}
+use Rattle.session_texts.specs.Scripts.{Script, checked}
 use Rattle.scp_script.specs.Session.{State, Session, SessionEnd, InputEnded, FlushFailed, Upcoming, Ends, Comes, upcoming, ComesTo}
 use Rattle.scp_script.specs.Loop.{MayFollow}
 

@@ -16,18 +16,16 @@ ghost use Rattle.command_session.specs.FaultText.{fault_text};
 ghost use Rattle.command_session.specs.declared.fault.CommandFault.TheVariants.{TooDeep};
 ghost use Rattle.scp_script.specs.declared.progress.Progress.TheVariants.{IsOver};
 ghost use Rattle.scp_script.specs.declared.progress.Finish.TheVariants.{OutOfMemory};
-ghost use Rattle.scp_script.specs.Scripts.{checked, arguments_of, label_of, behind_failure, is_assertion};
-ghost use Rattle.scp_script.specs.Actions.{texts_of, texts_behind, behind_refusal};
-ghost use Rattle.scp_script.specs.Actions.{text_of_stop, put_first, overflow_text};
+ghost use Rattle.session_texts.specs.Scripts.{checked, arguments_of, label_of, behind_failure, is_assertion};
+ghost use Rattle.session_texts.specs.Actions.{texts_of, coming, texts_behind, behind_refusal};
+ghost use Rattle.session_texts.specs.Actions.{text_of_stop, put_first, overflow_text};
 ghost use Rattle.scp_script.specs.Session.{text_reply};
 ghost use Rattle.scp_script.specs.Loop.{IsAnswer, Answers, AnswerCounts, HasExitStatus, AreKept, IsShort};
-ghost use Rattle.scp_script.specs.Loop.{coming, Complains, Denies, Follows, FitsIn};
+ghost use Rattle.scp_script.specs.Loop.{Complains, Denies, Follows, FitsIn};
 ghost use Rattle.scp_script.specs.Used.{TextTold};
+ghost use Rattle.scp_script.specs.Spending.{EndOf, IsNoExit, NextOf, OpensOne};
 
-use crate::open_script::OpenScript;
 use crate::progress::{Finish, Progress};
-use crate::script_stack::ScriptStack;
-use crate::texts::Texts;
 use expect_actions::{Full, Watch};
 use file_traits::{Failed, Files, Sink};
 use host_lines::Lines;
@@ -35,6 +33,7 @@ use nova_machine::Stop;
 use scp_commands::{CommandFault, Next, Session, execute};
 use scp_parser::{Command, Verb, read_command};
 use script_text::Arguments;
+use session_texts::{OpenScript, ScriptStack, Texts};
 use std::alloc::{AllocError, Global};
 use unit_trait::Unit;
 
@@ -71,6 +70,8 @@ pub fn answer<U: Unit, F: Files, L: Lines, S: Sink>(
         session.new.machine.lines }
     ensures counts { AnswerCounts result (S.fault_count out.old) (S.fault_count out.new) }
     ensures exit { HasExitStatus result }
+    ensures asked { EndOf (asked line.now) result }
+    ensures scripts { OpensOne texts.old.scripts result texts.new.scripts }
     ensures command { session.new.command ≡ session.old.command }
     ensures keeps { AreKept session.old.notes session.new.notes (F.state files.old) (F.state files.new) }
     ensures whose { AreOwn session.old.machine.slots session.new.machine.slots session.old.notes session.new.notes
@@ -123,6 +124,8 @@ fn obey<U: Unit, F: Files, L: Lines, S: Sink>(
         session.new.machine.lines }
     ensures counts { AnswerCounts result (S.fault_count out.old) (S.fault_count out.new) }
     ensures exit { HasExitStatus result }
+    ensures asked { EndOf (Ok command.now) result }
+    ensures scripts { OpensOne texts.old.scripts result texts.new.scripts }
     ensures command { session.new.command ≡ session.old.command }
     ensures keeps { AreKept session.old.notes session.new.notes (F.state files.old) (F.state files.new) }
     ensures whose { AreOwn session.old.machine.slots session.new.machine.slots session.old.notes session.new.notes
@@ -192,11 +195,14 @@ fn follow<S: Sink>(
 ) -> Progress
     requires arguments { arguments ≡ arguments_of (Ok command.now) }
     requires exit { IsExitAnswer (Ok next) }
+    requires asked { NextOf (Ok command.now) next }
     ensures told { (heard : Heard)
         → Follows watch.now next command.now result (coming texts.old) (coming texts.new) S.tells
         (output (S.written out.old) heard) (output (S.written out.new) heard) }
     ensures counts { AnswerCounts result (S.fault_count out.old) (S.fault_count out.new) }
     ensures exit { HasExitStatus result }
+    ensures asked { EndOf (Ok command.now) result }
+    ensures scripts { OpensOne texts.old.scripts result texts.new.scripts }
     ensures memory { result ≢ IsOver OutOfMemory }
 {
     match next {
@@ -225,6 +231,7 @@ fn act_on<S: Sink>(stop: Stop, watch: &Watch, texts: &mut Texts, out: &mut S) ->
         ≡ texts_of (put_first (text_of_stop stop watch.now) texts.old.actions) texts.old.scripts }
     ensures counts { AnswerCounts result (S.fault_count out.old) (S.fault_count out.new) }
     ensures exit { HasExitStatus result }
+    ensures stays { IsNoExit result }
     ensures memory { result ≢ IsOver OutOfMemory }
 {
     match texts.actions.put_first(actions_of(stop, watch)) {
@@ -252,6 +259,7 @@ fn refuse<S: Sink>(fault: CommandFault, texts: &mut Texts, out: &mut S) -> Progr
     ensures texts { coming texts.new ≡ texts_of
         (behind_refusal texts.old.scripts (behind_failure (is_assertion fault) texts.old.scripts) texts.old.actions)
         (behind_failure (is_assertion fault) texts.old.scripts) }
+    ensures stays { IsNoExit result }
 {
     let progress = deny(fault, out);
     texts.fail(is_assertion(fault));
@@ -270,8 +278,9 @@ fn is_assertion(fault: CommandFault) -> bool
 
 /// Answers a fault: by its text, or by the end of the session where the console refused a byte or memory ran out.
 fn deny<S: Sink>(fault: CommandFault, out: &mut S) -> Progress
-    ensures { Denies fault S.tells result (S.written out.old) (S.written out.new) (S.fault_count out.old)
+    ensures told { Denies fault S.tells result (S.written out.old) (S.written out.new) (S.fault_count out.old)
         (S.fault_count out.new) }
+    ensures stays { IsNoExit result }
 {
     match fault {
         CommandFault::Console => Progress::IsOver(Finish::Console),
@@ -295,6 +304,8 @@ pub fn deny_line<U: Unit, S: Sink>(
     ensures memory { result ≢ IsOver OutOfMemory }
     ensures counts { AnswerCounts result (S.fault_count out.old) (S.fault_count out.new) }
     ensures exit { HasExitStatus result }
+    ensures stays { IsNoExit result }
+    ensures scripts { texts.new.scripts ≡ behind_failure (is_assertion fault) texts.old.scripts }
 {
     let progress = complain(fault, out);
     texts.fail(is_assertion(fault));
@@ -305,6 +316,7 @@ pub fn deny_line<U: Unit, S: Sink>(
 fn complain<S: Sink>(fault: CommandFault, out: &mut S) -> Progress
     ensures told { Complains S.tells (S.written out.old) (fault_text fault) result (S.written out.new) }
     ensures exit { HasExitStatus result }
+    ensures stays { IsNoExit result }
     ensures counts { AnswerCounts result (S.fault_count out.old) (S.fault_count out.new) }
     ensures memory { result ≢ IsOver OutOfMemory }
 {

@@ -12,22 +12,21 @@ ghost use Rattle.nova_machine.specs.Comes.{output};
 ghost use Rattle.state_transfer.specs.SavedValid.{AreStandard};
 ghost use Rattle.command_session.specs.Live.{beyond};
 ghost use Rattle.command_session.specs.LinesLeft.{LinesLeft};
-ghost use Rattle.scp_script.specs.Reading.{IsReading, Pays};
-ghost use Rattle.scp_script.specs.Scripts.{cost_of_line};
+ghost use Rattle.session_texts.specs.Reading.{IsReading, Pays};
+ghost use Rattle.session_texts.specs.Scripts.{cost_of_line, still_open};
 ghost use Rattle.scp_script.specs.Session.{prompt_text, spent_more};
 ghost use Rattle.scp_script.specs.Loop.{session_of, NumbersSuffice, Stepped, ProgressCause, PaysFor};
 ghost use Rattle.scp_script.specs.Loop.{AreKept, KeptInLine};
 ghost use Rattle.scp_script.specs.Used.{NextTold};
-ghost use Rattle.scp_script.specs.Spending.{TextCause};
+ghost use Rattle.scp_script.specs.Spending.{OpensOne, TextCause};
 
 use crate::answers::{answer, deny_line};
-use crate::line_reader::Reading;
-use crate::open_script::OpenScript;
 use crate::progress::{CommandLoop, Finish, Progress};
 use file_traits::{Failed, Files, Sink, Source, put_all};
 use host_lines::Lines;
 use scp_commands::{CommandFault, Session};
 use scp_parser::ParseFault;
+use session_texts::{OpenScript, Reading};
 use std::alloc::Global;
 use unit_trait::Unit;
 
@@ -67,7 +66,9 @@ pub fn next_line<U: Unit, C: Source, F: Files, L: Lines, S: Sink>(
     ensures cause { ProgressCause result (S.fault_count out.old) (S.fault_count out.new) (C.fault_count input.old)
         (C.fault_count input.new) }
     ensures pays { PaysFor lines.old.budget result lines.new.budget }
-    ensures ends { TextCause lines.old.reads lines.old.budget result lines.new.budget }
+    ensures ends { TextCause lines.old.reads lines.old.texts.actions (still_open lines.old.texts.scripts) lines.old.budget result
+        lines.new.budget }
+    ensures scripts { OpensOne lines.old.texts.scripts result lines.new.texts.scripts }
     ensures command { session.new.command
         ≡ spent_more session.old.command (lines.old.budget - lines.new.budget) }
     ensures keeps { AreKept session.old.notes session.new.notes (F.state files.old) (F.state files.new) }
@@ -126,7 +127,9 @@ fn action<U: Unit, F: Files, L: Lines, S: Sink>(
         session.new.machine.lines }
     ensures cause { (source : ℕ) → ProgressCause result (S.fault_count out.old) (S.fault_count out.new) source source }
     ensures pays { PaysFor lines.old.budget result lines.new.budget }
-    ensures ends { TextCause lines.old.reads lines.old.budget result lines.new.budget }
+    ensures ends { TextCause lines.old.reads lines.old.texts.actions (still_open lines.old.texts.scripts) lines.old.budget result
+        lines.new.budget }
+    ensures scripts { OpensOne lines.old.texts.scripts result lines.new.texts.scripts }
     ensures command { session.new.command
         ≡ spent_more session.old.command (lines.old.budget - lines.new.budget) }
     ensures keeps { AreKept session.old.notes session.new.notes (F.state files.old) (F.state files.new) }
@@ -198,7 +201,9 @@ fn input_line<U: Unit, C: Source, F: Files, L: Lines, S: Sink>(
     ensures cause { ProgressCause result (S.fault_count out.old) (S.fault_count out.new) (C.fault_count input.old)
         (C.fault_count input.new) }
     ensures pays { PaysFor lines.old.budget result lines.new.budget }
-    ensures ends { TextCause lines.old.reads lines.old.budget result lines.new.budget }
+    ensures ends { TextCause lines.old.reads [] [] lines.old.budget result
+        lines.new.budget }
+    ensures scripts { OpensOne lines.old.texts.scripts result lines.new.texts.scripts }
     ensures command { session.new.command
         ≡ spent_more session.old.command (lines.old.budget - lines.new.budget) }
     ensures keeps { AreKept session.old.notes session.new.notes (F.state files.old) (F.state files.new) }
@@ -278,7 +283,9 @@ fn script_line<U: Unit, F: Files, L: Lines, S: Sink>(
         session.new.machine.lines }
     ensures cause { (source : ℕ) → ProgressCause result (S.fault_count out.old) (S.fault_count out.new) source source }
     ensures pays { PaysFor lines.old.budget result lines.new.budget }
-    ensures ends { TextCause lines.old.reads lines.old.budget result lines.new.budget }
+    ensures ends { TextCause lines.old.reads [] (script ∷ lines.old.texts.scripts) lines.old.budget result
+        lines.new.budget }
+    ensures scripts { OpensOne (script ∷ lines.old.texts.scripts) result lines.new.texts.scripts }
     ensures command { session.new.command
         ≡ spent_more session.old.command (lines.old.budget - lines.new.budget) }
     ensures keeps { AreKept session.old.notes session.new.notes (F.state files.old) (F.state files.new) }

@@ -12,20 +12,18 @@ ghost use Rattle.state_transfer.specs.SavedValid.{AreStandard};
 ghost use Rattle.command_session.specs.Live.{live_in, beyond};
 ghost use Rattle.command_session.specs.LinesLeft.{LinesLeft};
 ghost use Rattle.scp_script.specs.Loop.{NumbersSuffice, FinishCause, AreKept, KeptCause};
-ghost use Rattle.scp_script.specs.Scripts.{first_script};
+ghost use Rattle.session_texts.specs.Scripts.{first_script, AreFiles};
 ghost use Rattle.scp_script.specs.Perform.{beginning, Performed};
 ghost use Rattle.scp_script.specs.Spending.{Spends};
 ghost use Rattle.scp_script.specs.Used.{CourseTold};
 
 use crate::command_loop::next_line;
-use crate::line_reader::LineReader;
-use crate::open_script::OpenScript;
 use crate::progress::{CommandLoop, Finish, Progress};
-use crate::texts::Texts;
 use file_traits::{Files, Sink, Source};
 use host_lines::Lines;
 use scp_commands::{DoFile, ScriptText, Session};
 use script_text::Arguments;
+use session_texts::{LineReader, OpenScript, Texts};
 use std::alloc::{AllocError, Global};
 use unit_trait::Unit;
 
@@ -82,7 +80,8 @@ pub fn perform<U: Unit, C: Source, F: Files, L: Lines, S: Sink>(
         (notes_said session.old.notes) (notes_said session.new.notes) }
     ensures lines { LinesLeft L.tells (L.state lines.old) session.old.machine.lines (L.state lines.new)
         session.new.machine.lines }
-    ensures command { Spends opening.now.reads result opening.now.budget session.old.command session.new.command }
+    ensures command { Spends opening.now.reads (first_script opening.now.script opening.now.arguments.items) result
+        opening.now.budget session.old.command session.new.command }
     ensures cause { FinishCause result (S.fault_count out.old) (S.fault_count out.new) (C.fault_count input.old)
         (C.fault_count input.new) }
     ensures keeps { AreKept session.old.notes session.new.notes (F.state files.old) (F.state files.new) }
@@ -120,13 +119,14 @@ fn rest<U: Unit>(session: &mut Session<U>)
 /// The texts of a session before the first one. Memory is taken for the script and its arguments, and the room for
 /// others.
 fn begin(alloc: Global, opening: &Opening) -> Result<CommandLoop, AllocError>
-    ensures { IfOk result (λ lines. lines ≡ record {
+    ensures first { IfOk result (λ lines. lines ≡ record {
       texts = record { actions = []; scripts = first_script opening.now.script opening.now.arguments.items };
       reads = opening.now.reads;
       reader = record { line = []; open_ = true };
       budget = opening.now.budget;
       prompt = opening.now.prompt;
     }) }
+    ensures files { IfOk result (λ lines. AreFiles lines.texts.scripts) }
 {
     let mut texts = Texts::new(alloc)?;
     match &opening.script {

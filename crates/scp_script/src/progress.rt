@@ -1,6 +1,5 @@
-use crate::line_reader::LineReader;
-use crate::texts::Texts;
 use observations::ExitStatus;
+use session_texts::{LineReader, Texts};
 
 /// How a session ended.
 #[derive(Clone, Copy, Debug, PartialEq, Eq)]

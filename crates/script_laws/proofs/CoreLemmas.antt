@@ -11,9 +11,9 @@ use Rattle.command_session.specs.Live.{Live}
 use Rattle.command_session.specs.Reply.{Answer}
 use Rattle.command_session.specs.Asked.{Asked, asked}
 use Rattle.script_text.specs.Lines.{line_cost, first_line}
-use Rattle.scp_script.specs.Lines.{Arrival, InputEnds, Unpaid, LineComes, arrival}
-use Rattle.scp_script.specs.Scripts.{Script, still_open, cost_of_line, text_of_line}
-use Rattle.scp_script.specs.Actions.{texts_behind}
+use Rattle.session_texts.specs.Lines.{Arrival, InputEnds, Unpaid, LineComes, arrival}
+use Rattle.session_texts.specs.Scripts.{Script, still_open, cost_of_line, text_of_line}
+use Rattle.session_texts.specs.Actions.{texts_behind}
 use Rattle.scp_script.specs.Session.{State, Session, spent_more, SessionEnd, ExitDone, AllDone, InputEnded, FlushFailed, BudgetSpent, closed, end_state, Following, Going, Over, following, Upcoming, Ends, Comes, asking, behind_line, behind_script_line, behind_action, upcoming_of, upcoming_in, upcoming_at, upcoming, step_upcoming, text_reply, text_step, step, Course, after_step, over_by, texts, course, trace, ComesTo}
 use Rattle.script_laws.specs.Core.{Core, core_of, session_at, SameCore, NoneFails, SameNext, SameStep, SameCoreSameFuture, after_all, CutBehindTexts}
 use Rattle.scp_script.proofs.SessionLemmas.{line-by-line}

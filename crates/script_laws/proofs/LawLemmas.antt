@@ -6,9 +6,9 @@ use Rattle.observations.specs.Observations.{Observation, Prints, reads_of}
 use Rattle.observations.proofs.MadeLemmas.{reads_of-append}
 use Rattle.command_session.specs.Asked.{asked}
 use Rattle.script_text.specs.Lines.{first_line, line_cost}
-use Rattle.scp_script.specs.Lines.{Arrival, InputEnds, Unpaid, LineComes, arrival}
-use Rattle.scp_script.specs.Scripts.{Script, still_open, cost_of_line, text_of_line, echo_text}
-use Rattle.scp_script.specs.Actions.{texts_of}
+use Rattle.session_texts.specs.Lines.{Arrival, InputEnds, Unpaid, LineComes, arrival}
+use Rattle.session_texts.specs.Scripts.{Script, still_open, cost_of_line, text_of_line, echo_text}
+use Rattle.session_texts.specs.Actions.{texts_of}
 use Rattle.scp_script.specs.Session.{State, Session, spent_more, input_end, emptied_in, AllDone, BudgetSpent, Upcoming, Ends, Comes, Going, rested, state_of, asking_in, asking, behind_line, behind_script_line, behind_action, upcoming_in, upcoming, Step, step, ComesTo}
 use Rattle.script_laws.specs.Laws.{lines_size, lines_cost, AreBehind, IsBehindLines, OnlyInput, LinesAreConsumed, AreForgotten, ActionsAreForgotten, EndedScriptsDoNotMatter}
 use Rattle.scp_script.proofs.SessionLemmas.{arrival-paid, following-is, step-comes, step-over, upcoming-input, upcoming-done, upcoming-lines, asking-lines, upcoming-action, action-unpaid, asking-action, closing, step-still, course-still}

@@ -30,8 +30,8 @@ use Rattle.command_laws.specs.Resumption.{done_with, left_by_save, continued, sa
 use Rattle.command_laws.proofs.ResumptionLemmas.{restore-puts-back}
 use Rattle.scp_script.specs.declared.progress.Finish.{Finish}
 use Rattle.scp_script.specs.declared.progress.Finish.TheVariants.{Exit, EndOfInput, FlushFailed, Commands, Console, Input, OutOfMemory}
-use Rattle.scp_script.specs.Scripts.{settled}
-use Rattle.scp_script.specs.Actions.{Texts, texts_behind}
+use Rattle.session_texts.specs.Scripts.{settled}
+use Rattle.session_texts.specs.Actions.{Texts, texts_behind}
 use Rattle.scp_script.specs.Session.{State, Session, Step, Going, following, rested, state_at, asking, with_complaint, text_reply, text_step, step, Course, course, trace, ComesTo}
 use Rattle.script_laws.specs.Core.{Core, SameCore, NoneFails}
 use Rattle.scp_script.specs.Loop.{EndsAs, status_of, finish_of}

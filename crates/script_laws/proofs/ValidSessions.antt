@@ -23,9 +23,9 @@ use Rattle.scp_commands.specs.Effect.{does}
 use Rattle.command_laws.specs.Valid.{ValidLive, CopyFollows}
 use Rattle.command_laws.proofs.ValidWatch.{watch-forgotten}
 use Rattle.command_laws.proofs.ValidEffect.{StandsBy, watch-live, stands-refused, stands-emptied, stands-effect, remains-valid}
-use Rattle.scp_script.specs.Lines.{Arrival, InputEnds, Unpaid, LineComes, arrival}
-use Rattle.scp_script.specs.Scripts.{Script, most_scripts, still_open, cost_of_line, text_of_line, echo_text, checked, settled_answer}
-use Rattle.scp_script.specs.Actions.{Texts, texts_of, texts_behind}
+use Rattle.session_texts.specs.Lines.{Arrival, InputEnds, Unpaid, LineComes, arrival}
+use Rattle.session_texts.specs.Scripts.{Script, most_scripts, still_open, cost_of_line, text_of_line, echo_text, checked, settled_answer}
+use Rattle.session_texts.specs.Actions.{Texts, texts_of, texts_behind}
 use Rattle.scp_script.specs.Session.{State, Session, state_of, state_at, asking_input, asking_in, asking_at, asking, behind_line, behind_script_line, behind_action, SessionEnd, ExitDone, AllDone, InputEnded, FlushFailed, BudgetSpent}
 use Rattle.scp_script.specs.Session.{Upcoming, Ends, Comes, upcoming_of, upcoming_in, upcoming_at, upcoming, complaint, text_reply, flushes_in, flushes_next, Following, Going, Over, rested, following, Step, text_step, closed, end_state, step_upcoming, step, Course, after_step, texts, course, trace, ComesTo}
 use Rattle.scp_script.specs.declared.progress.Finish.{Finish}

@@ -3,7 +3,7 @@ use Rattle.std.specs.Prelude.{◌≡◌, ℕ, ◌+◌, Bool, List, [], ◌++◌,
 use Rattle.observations.specs.Observations.{Observation, after_made, text_of, reads_of, sent_of}
 use Rattle.observations.specs.Cut.{cut_trace, behind, sent_until}
 use Rattle.command_session.specs.Live.{Live}
-use Rattle.scp_script.specs.Actions.{Texts}
+use Rattle.session_texts.specs.Actions.{Texts}
 use Rattle.scp_script.specs.Session.{State, Session, Course, Step, Following, Going, Over, step, course, trace, ComesTo}
 
 -- All parts of a session but two that stand beside it: how many units are spent, which is the number of the last command, and

@@ -2,8 +2,8 @@
 use Rattle.std.specs.Prelude.{◌≡◌, ℕ, zero, suc, ◌+◌, ◌-◌, ◌<◌, ◌≤◌, List, [], length, drop}
 use Rattle.observations.specs.Observations.{Observation, reads_of}
 use Rattle.script_text.specs.Lines.{first_line, line_cost}
-use Rattle.scp_script.specs.Scripts.{still_open}
-use Rattle.scp_script.specs.Actions.{texts_of}
+use Rattle.session_texts.specs.Scripts.{still_open}
+use Rattle.session_texts.specs.Actions.{texts_of}
 use Rattle.expect_actions.specs.Watch.{forgotten}
 use Rattle.scp_script.specs.Session.{State, Session, spent_more, Going, step, after_step, course, ComesTo}
 

@@ -15,7 +15,7 @@ use Rattle.command_session.specs.Asked.{asked}
 use Rattle.command_laws.specs.Resumption.{left_by_save, ahead_behind, continued, HasNobody, HaveLengths, HoldsSaved, IsRestored}
 use Rattle.scp_script.specs.declared.progress.Finish.{Finish}
 use Rattle.scp_script.specs.declared.progress.Finish.TheVariants.{Exit, Console, Input, OutOfMemory}
-use Rattle.scp_script.specs.Actions.{texts_of}
+use Rattle.session_texts.specs.Actions.{texts_of}
 use Rattle.scp_script.specs.Session.{State, Session, Going, Comes, upcoming, asking, rested, step, course, trace, ComesTo}
 use Rattle.script_laws.specs.Valid.{ValidSession}
 use Rattle.script_laws.specs.Core.{SameCore, NoneFails, after_all}

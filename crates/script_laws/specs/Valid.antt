@@ -8,8 +8,8 @@ use Rattle.nova_machine.specs.Valid.{AreBytes}
 use Rattle.command_session.specs.Live.{Live}
 use Rattle.command_laws.specs.Valid.{ValidLive, CopyFollows}
 use Rattle.scp_script.specs.declared.progress.Finish.{Finish}
-use Rattle.scp_script.specs.Scripts.{Script, most_scripts}
-use Rattle.scp_script.specs.Actions.{Texts}
+use Rattle.session_texts.specs.Scripts.{Script, most_scripts}
+use Rattle.session_texts.specs.Actions.{Texts}
 use Rattle.scp_script.specs.Session.{State, Session, SessionEnd, Going, Over, flushes_next, step, trace, ComesTo}
 use Rattle.scp_script.specs.Perform.{IsPerformed}
 

@@ -1,5 +1,5 @@
 use Rattle.std.proofs.Common.{List, ℕ, refl, ap, sym, ◌∙◌}
-use Rattle.scp_script.specs.Actions.{texts_of, text_of_stop, put_first, overflows}
+use Rattle.session_texts.specs.Actions.{texts_of, text_of_stop, put_first, overflows}
 use Rattle.scp_script.proofs.ActionLemmas.{taken-fits, refused-overflows, put-taken, put-refused, quiet-taken, said-refused}
 use Rattle.scp_script.proofs.answers.act_on.Goals as goal
 

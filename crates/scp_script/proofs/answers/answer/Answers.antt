@@ -6,10 +6,13 @@ use Rattle.command_session.specs.Live.{live_in, beyond}
 use Rattle.command_session.specs.Asked.{Asked, asked}
 use Rattle.command_session.proofs.AskedLemmas.{asked-as}
 use Rattle.command_session.proofs.PortLemmas.{left-same}
-use Rattle.scp_script.specs.Scripts.{checked}
-use Rattle.scp_script.specs.Loop.{Answers, IsShort, coming}
+use Rattle.session_texts.specs.Scripts.{checked}
+use Rattle.scp_script.specs.Loop.{Answers, IsShort}
+use Rattle.session_texts.specs.Actions.{coming}
 use Rattle.scp_script.specs.Used.{TextTold}
+use Rattle.scp_script.specs.Spending.{EndOf}
 use Rattle.scp_script.proofs.TextLemmas.{answers-none}
+use Rattle.scp_script.proofs.SpendingLemmas.{no-exit, opens-failed}
 use Rattle.scp_script.proofs.NoteLemmas.{never-short}
 use Rattle.scp_script.proofs.answers.answer.Goals as goal
 
@@ -62,3 +65,16 @@ pub returns-in-Ok-clause-still : goal.returns-in-Ok-clause-still
 returns-in-Ok-clause-still g c = λ used untold.
     let is = asked-as c.args.line.now (Ok c.read_command.new.into) c.in-Ok.ensures.exact in
     c.obey.ensures.still (subst (λ (a : Asked). TextTold g.F.Files.tells g.L.Lines.tells c.args.session.now.machine c.args.texts.now.scripts a) is used) untold
+
+-- ---- an exit, and the scripts
+
+pub returns-in-Ok-clause-asked : goal.returns-in-Ok-clause-asked
+returns-in-Ok-clause-asked g c =
+    let is = asked-as c.args.line.now (Ok c.read_command.new.into) c.in-Ok.ensures.exact in
+    subst (λ (a : Asked). EndOf a c.obey.result) (sym is) c.obey.ensures.asked
+
+pub returns-in-Err-clause-asked : goal.returns-in-Err-clause-asked
+returns-in-Err-clause-asked g c = no-exit (asked c.args.line.now) c.deny_line.result c.deny_line.ensures.stays
+
+pub returns-in-Err-clause-scripts : goal.returns-in-Err-clause-scripts
+returns-in-Err-clause-scripts g c = opens-failed _ c.args.texts.now.scripts c.deny_line.new.texts.scripts c.deny_line.result c.deny_line.ensures.scripts

@@ -1,7 +1,6 @@
 use Rattle.std.proofs.Common.{Bool, refl, ap, ◌∙◌}
-use Rattle.scp_script.specs.Scripts.{behind_failure}
-use Rattle.scp_script.specs.Actions.{texts_of, behind_refusal}
-use Rattle.scp_script.specs.Loop.{coming}
+use Rattle.session_texts.specs.Scripts.{behind_failure}
+use Rattle.session_texts.specs.Actions.{texts_of, behind_refusal, coming}
 use Rattle.nova_machine.specs.Comes.{output}
 use Rattle.command_session.specs.Live.{live_in}
 use Rattle.scp_script.proofs.TextLemmas.{line-denied}

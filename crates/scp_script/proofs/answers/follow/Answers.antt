@@ -2,9 +2,11 @@ use Rattle.std.proofs.Common.{List, Ok, refl, subst, ap, sym, ◌∙◌}
 use Rattle.command_session.specs.declared.next.Next.{Next}
 use Rattle.command_session.specs.Doing.{Does}
 use Rattle.nova_machine.specs.Comes.{output}
-use Rattle.scp_script.specs.Scripts.{Script, label_in, jumped_to}
-use Rattle.scp_script.specs.Actions.{texts_of}
-use Rattle.scp_script.specs.Loop.{coming}
+use Rattle.session_texts.specs.Scripts.{Script, label_in, jumped_to}
+use Rattle.session_texts.specs.Actions.{Texts, texts_of, coming}
+use Rattle.session_texts.proofs.OpenLemmas.{stack-as, stack-jumped}
+use Rattle.scp_script.specs.declared.progress.Progress.TheVariants.{GoesOn}
+use Rattle.scp_script.proofs.SpendingLemmas.{no-exit, opens-none, opens-one, opens-jumped, opens-failed, opens-since}
 use Rattle.scp_script.proofs.TextLemmas.{refused_texts, ran-followed, label-denied}
 use Rattle.scp_script.proofs.answers.follow.Goals as goal
 
@@ -26,3 +28,27 @@ returns-in-Goto-clause-told g c = λ heard reply at before watched room does.
     (g.S.Sink.fault_count c.args.out.now) (g.S.Sink.fault_count c.refuse.new.out) found
     (c.refuse.ensures.texts ∙ ap (λ (l : List Script). refused_texts c.in-Err.fault (texts_of texts.actions l)) same) refl
     (subst (λ (n : Next). Does reply (Ok n) at tells before mid) c.in-Goto.is does) c.refuse.ensures.told
+
+-- ---- an exit, and the scripts
+
+pub returns-in-Ran-clause-asked : goal.returns-in-Ran-clause-asked
+returns-in-Ran-clause-asked g c = no-exit (Ok c.args.command.now) c.act_on.result c.act_on.ensures.stays
+
+pub returns-in-Goto-clause-asked : goal.returns-in-Goto-clause-asked
+returns-in-Goto-clause-asked g c = no-exit (Ok c.args.command.now) c.refuse.result c.refuse.ensures.stays
+
+pub returns-in-Ran-clause-scripts : goal.returns-in-Ran-clause-scripts
+returns-in-Ran-clause-scripts g c = opens-none c.args.texts.now.scripts c.act_on.new.texts.scripts c.act_on.result (ap (λ (t : Texts). t.scripts) c.act_on.ensures.texts)
+
+pub returns-in-Goto-clause-scripts : goal.returns-in-Goto-clause-scripts
+returns-in-Goto-clause-scripts g c =
+    let old = c.args.texts.now.scripts in
+    let mid = c.go_to.new.self in
+    opens-since old mid c.refuse.new.texts.scripts c.refuse.result (λ first most stack. stack-as first most _ mid c.in-Err.ensures.jumps (stack-jumped first most _ old stack))
+    (opens-failed _ mid c.refuse.new.texts.scripts c.refuse.result (ap (λ (t : Texts). t.scripts) c.refuse.ensures.texts))
+
+pub returns-then-not-is_full-clause-scripts : goal.returns-then-not-is_full-clause-scripts
+returns-then-not-is_full-clause-scripts g c = opens-one c.begin.result c.args.texts.now.scripts c.push.new.self GoesOn c.begin.ensures.file c.push.ensures
+
+pub returns-in-Ok-clause-scripts : goal.returns-in-Ok-clause-scripts
+returns-in-Ok-clause-scripts g c = opens-jumped _ c.args.texts.now.scripts c.go_to.new.self GoesOn c.in-Ok.ensures.jumps

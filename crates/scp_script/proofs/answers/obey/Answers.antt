@@ -1,4 +1,4 @@
-use Rattle.std.proofs.Common.{◌≡◌, Ok, Err, refl, ap, sym, subst}
+use Rattle.std.proofs.Common.{◌≡◌, [], ◌++◌, Ok, Err, refl, ap, sym, subst}
 use Rattle.file_commands.specs.Notes.{notes_said}
 use Rattle.nova_machine.specs.Comes.{output}
 use Rattle.nova_machine.specs.LineChanges.{ports_of}
@@ -13,14 +13,18 @@ use Rattle.command_session.proofs.RemainLemmas.{remains, notes-remain}
 use Rattle.command_session.proofs.PortLemmas.{left-same}
 use Rattle.scp_script.specs.declared.progress.Progress.TheVariants.{IsOver}
 use Rattle.scp_script.specs.declared.progress.Finish.TheVariants.{OutOfMemory}
-use Rattle.scp_script.specs.Loop.{coming}
+use Rattle.session_texts.specs.Actions.{Texts, coming}
 use Rattle.scp_script.proofs.TextLemmas.{answers-of, answers-none, denied}
 use Rattle.scp_script.proofs.UsedLemmas.{as-command, command-told, still-lines}
 use Rattle.scp_script.proofs.UndoneLemmas.{says, short-notes, refused-short}
 use Rattle.scp_script.proofs.PortLemmas.{IsUnasked, still-seen, live-still}
 use Rattle.scp_script.proofs.NoteLemmas.{never-short}
-use Rattle.scp_script.proofs.RoomLemmas.{room-next}
-use Rattle.command_session.specs.Doing.{is_restore, attaches_file}
+use Rattle.scp_script.proofs.NextLemmas.{room-next, exit-next, untold-next}
+use Rattle.scp_script.proofs.SpendingLemmas.{no-exit, opens-failed}
+use Rattle.command_session.specs.Doing.{is_restore, attaches_file, told_by}
+use Rattle.command_session.specs.Nature.{Telling}
+use Rattle.host_lines.specs.Told.{record_in}
+use Rattle.nova_machine.proofs.LineSteps.{first-same}
 use Rattle.scp_script.proofs.WholeLemmas.{kept-by}
 use Rattle.scp_script.proofs.answers.obey.Goals as goal
 
@@ -56,7 +60,8 @@ returns-clause-told g c = λ used apart whole first.
     tells before mid (output (g.S.Sink.written c.follow.new.out) ports'.sent) (notes_said session.notes) (notes_said c.execute.new.session.notes) (c.is_too_deep.ensures.fits c.if-is_too_deep.false)
     (c.in-Ok-execute.ensures.told (command-told g.F.Files.tells g.L.Lines.tells session.machine ports c.args.texts.now.scripts c.args.command.now (c.is_too_deep.ensures.fits c.if-is_too_deep.false) used apart) whole first)
     (λ own used does. c.follow.ensures.told ports'.sent (effect session.limit own live c.args.command.now) (standing used new) before (sym (ap (λ (x : CommandState). x.watch) c.session.view_is))
-    (room-next texts.scripts session.limit own live c.args.command.now c.in-Ok-execute.next _ tells before mid (c.is_too_deep.ensures.room c.if-is_too_deep.false) does) does)
+    (room-next texts.scripts c.args.command.now c.in-Ok-execute.next (c.is_too_deep.ensures.room c.if-is_too_deep.false) (c.in-Ok-execute.ensures.answers (λ short. absurd (cc short))).1
+    (untold-next session.limit own live c.args.command.now c.in-Ok-execute.next does.0)) does)
 
 pub returns-in-Err-clause-told : goal.returns-in-Err-clause-told
 returns-in-Err-clause-told g c = λ used apart whole first.
@@ -164,3 +169,33 @@ pub returns-in-Err-clause-keeps : goal.returns-in-Err-clause-keeps
 returns-in-Err-clause-keeps g c =
     kept-by (is_restore c.args.command.now) (attaches_file c.args.command.now) c.args.session.now.command c.args.session.now.machine.time c.execute.new.session.machine.time g.F.Files.tells c.execute.result
     c.args.session.now.notes c.execute.new.session.notes (g.F.Files.state c.args.files.now) (g.F.Files.state c.execute.new.files) c.execute.ensures.keeps
+
+-- ---- an exit, and the scripts
+
+pub returns-then-is_too_deep-clause-asked : goal.returns-then-is_too_deep-clause-asked
+returns-then-is_too_deep-clause-asked g c = no-exit (Ok c.args.command.now) c.deny_line.result c.deny_line.ensures.stays
+
+pub returns-in-Err-clause-asked : goal.returns-in-Err-clause-asked
+returns-in-Err-clause-asked g c = no-exit (Ok c.args.command.now) c.refuse.result c.refuse.ensures.stays
+
+pub returns-then-is_too_deep-clause-scripts : goal.returns-then-is_too_deep-clause-scripts
+returns-then-is_too_deep-clause-scripts g c = opens-failed _ c.args.texts.now.scripts c.deny_line.new.texts.scripts c.deny_line.result c.deny_line.ensures.scripts
+
+pub returns-in-Err-clause-scripts : goal.returns-in-Err-clause-scripts
+returns-in-Err-clause-scripts g c =
+    opens-failed _ c.args.texts.now.scripts c.refuse.new.texts.scripts c.refuse.result (ap (λ (t : Texts). t.scripts) c.refuse.ensures.texts)
+
+-- a command that works on no file and no line does what is told of it, whatever the others tell
+pub follow-requires-clause-asked : goal.follow-requires-clause-asked
+follow-requires-clause-asked g c =
+    let session = c.args.session.now in
+    let r = c.args.command.now in
+    let next = c.in-Ok-execute.next in
+    let ports = g.L.Lines.state c.args.lines.now in
+    let whole = record_in (g.L.Lines.state c.execute.new.lines).told in
+    exit-next r next (c.in-Ok-execute.ensures.answers (λ short. absurd (cc short))).1
+    (λ untold.
+    let did = c.in-Ok-execute.ensures.told (subst (λ (t : Telling). told_by t g.F.Files.tells session.machine.slots g.L.Lines.tells ports session.machine.lines) (sym untold) tt) whole (first-same whole) in
+    let own = did.own in
+    let does = did.does [] tt in
+    untold-next session.limit (own ++ []) (live_in session (beyond (g.F.Files.state c.args.files.now).files ports whole)) r next does.0 untold)

@@ -1,4 +1,4 @@
-use Rattle.std.proofs.Common.{inl, ◌≡◌, ◌<◌, ◌-◌, ℕ, List, [], ◌∷◌, refl, ap, sym, ◌∙◌, subst, arith, drop, take, ◌++◌}
+use Rattle.std.proofs.Common.{◌≡◌, ◌<◌, ◌-◌, ℕ, List, [], ◌∷◌, refl, ap, sym, ◌∙◌, subst, arith, drop, take, ◌++◌}
 use Rattle.file_commands.specs.Notes.{Note, notes_said}
 use Rattle.nova_machine.specs.Comes.{output}
 use Rattle.telnet_lines.specs.Many.{AreApart}
@@ -6,17 +6,19 @@ use Rattle.command_session.specs.Live.{CommandState, live_in, beyond}
 use Rattle.command_session.specs.LinesLeft.{LinesLeft}
 use Rattle.command_session.specs.Asked.{asked}
 use Rattle.scp_script.specs.declared.progress.CommandLoop.{CommandLoop}
-use Rattle.scp_script.specs.declared.progress.Progress.TheVariants.{IsOver}
+use Rattle.scp_script.specs.declared.progress.Progress.TheVariants.{GoesOn, IsOver}
 use Rattle.scp_script.specs.declared.progress.Finish.TheVariants.{Commands}
-use Rattle.scp_script.specs.Actions.{Texts, texts_of}
+use Rattle.session_texts.specs.Actions.{Texts, texts_of, coming}
 use Rattle.scp_script.specs.Session.{spent_more}
-use Rattle.scp_script.specs.Loop.{IsShort, Answers, coming, session_of}
+use Rattle.scp_script.specs.Loop.{IsShort, Answers, session_of}
 use Rattle.scp_script.proofs.UsedLemmas.{action-used}
 use Rattle.scp_script.proofs.SessionLemmas.{action-unpaid, asking-action}
 use Rattle.scp_script.proofs.LineLemmas.{text-unpaid}
 use Rattle.scp_script.proofs.NoteLemmas.{has-first, action-text, action-there, action-stepped, over-alone, left-at, same-read, answer-kept}
 use Rattle.scp_script.proofs.PortLemmas.{left-kept}
-use Rattle.scp_script.proofs.SpendingLemmas.{paid-text}
+use Rattle.session_texts.specs.Scripts.{still_open}
+use Rattle.session_texts.proofs.OpenLemmas.{stack-as}
+use Rattle.scp_script.proofs.SpendingLemmas.{opens-none, opens-since, paid-text, action-next, unpaid-action}
 use Rattle.scp_script.proofs.command_loop.action.Goals as goal
 
 pub returns-then-not-pay-clause-told : goal.returns-then-not-pay-clause-told
@@ -132,12 +134,32 @@ returns-in-Some-clause-still g c = λ untold whole input next.
     (action-used g.F.Files.tells g.L.Lines.tells session paid named lines now input first.action (take c.in-Some.length c.take.new.out) first.others (ap (λ (x : CommandState). x.machine) is)
     (ap (λ (x : CommandLoop). x.texts.scripts) c.pay.ensures.lines) first.is paid_for.0 text next) untold
 
--- ---- what was spent
+-- ---- what was spent, and on what
 
 pub returns-then-not-pay-clause-ends : goal.returns-then-not-pay-clause-ends
-returns-then-not-pay-clause-ends g c = let unpaid = c.pay.ensures.unpaid c.if-not-pay.true in inl (omega (arith, unpaid.0, unpaid.1))
+returns-then-not-pay-clause-ends g c =
+    let texts = c.args.lines.now.texts in
+    let unpaid = c.pay.ensures.unpaid c.if-not-pay.true in
+    unpaid-action c.args.lines.now.reads texts.actions (still_open texts.scripts) c.pay.new.lines.budget c.requires.some (omega (arith, unpaid.0, unpaid.1))
 
 pub returns-in-Some-clause-ends : goal.returns-in-Some-clause-ends
 returns-in-Some-clause-ends g c =
+    let lines = c.args.lines.now in
+    let now = c.pay.new.lines in
     let paid = c.pay.ensures.paid c.if-not-pay.false in
-    paid-text c.args.lines.now.reads c.args.lines.now.budget c.pay.new.lines.budget _ _ c.answer.result (omega (arith, paid.0, paid.1)) c.answer.ensures.counts
+    let first = has-first lines.texts.actions c.requires.some in
+    let there : now.texts.actions ≡ first.action ∷ first.others = ap (λ (x : CommandLoop). x.texts.actions) c.pay.ensures.lines ∙ first.is in
+    let text : take c.in-Some.length c.take.new.out ≡ first.action =
+    action-text now.texts.actions first.action first.others _ c.take.new.out c.in-Some.length there (sym c.in-Some.is ∙ c.take.ensures.count) c.take.ensures.text in
+    paid-text lines.reads lines.texts.actions (still_open lines.texts.scripts) lines.budget now.budget _ _ (take c.in-Some.length c.take.new.out) c.answer.result (omega (arith, paid.0, paid.1))
+    (action-next lines.reads lines.texts.actions (still_open lines.texts.scripts) first.action first.others (take c.in-Some.length c.take.new.out) first.is text) c.answer.ensures.counts c.answer.ensures.asked
+
+pub returns-in-Some-clause-scripts : goal.returns-in-Some-clause-scripts
+returns-in-Some-clause-scripts g c =
+    let old = c.args.lines.now.texts.scripts in
+    let mid = c.pay.new.lines.texts.scripts in
+    opens-since old mid c.answer.new.texts.scripts c.answer.result (λ first most. stack-as first most old mid (ap (λ (x : CommandLoop). x.texts.scripts) c.pay.ensures.lines)) c.answer.ensures.scripts
+
+pub returns-in-None-clause-scripts : goal.returns-in-None-clause-scripts
+returns-in-None-clause-scripts g c =
+    opens-none c.args.lines.now.texts.scripts c.pay.new.lines.texts.scripts GoesOn (ap (λ (x : CommandLoop). x.texts.scripts) c.pay.ensures.lines)

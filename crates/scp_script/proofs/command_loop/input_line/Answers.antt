@@ -1,4 +1,4 @@
-use Rattle.std.proofs.Common.{inl, Some, None, ◌≡◌, ◌<◌, [], Ok, Err, refl, ap, sym, ◌∙◌, subst, arith, ◌++◌, List}
+use Rattle.std.proofs.Common.{Some, None, ◌≡◌, ◌<◌, [], Ok, Err, refl, ap, sym, ◌∙◌, subst, arith, ◌++◌, List}
 use Rattle.unit_files.specs.Open.{Around}
 use Rattle.file_commands.specs.Notes.{Note, notes_said}
 use Rattle.scp_parser.specs.declared.fault.ParseFault.TheVariants.{TooLong}
@@ -14,19 +14,21 @@ use Rattle.command_session.specs.Asked.{asked}
 use Rattle.command_session.proofs.AskedLemmas.{long-asked}
 use Rattle.scp_script.specs.declared.progress.Progress.TheVariants.{IsOver}
 use Rattle.scp_script.specs.declared.progress.Finish.TheVariants.{Commands, Console, Input}
-use Rattle.scp_script.specs.Scripts.{checked}
-use Rattle.scp_script.specs.Actions.{Texts, texts_of}
+use Rattle.session_texts.specs.Scripts.{checked}
+use Rattle.session_texts.specs.Actions.{Texts, texts_of, coming}
 use Rattle.file_commands.specs.AllUnits.{keeper}
 use Rattle.command_session.specs.declared.next.Next.TheVariants.{Go}
 use Rattle.command_session.specs.FileEffects.{kept_answer}
 use Rattle.scp_script.proofs.WholeLemmas.{kept-last, kept-none}
-use Rattle.scp_script.specs.Loop.{IsShort, Answers, AreKept, coming, session_of}
+use Rattle.scp_script.specs.Loop.{IsShort, Answers, AreKept, session_of}
 use Rattle.scp_script.proofs.TextLemmas.{answers-none}
 use Rattle.scp_script.proofs.LineLemmas.{none-read, prompt-refused, budget-spent, input-failed}
 use Rattle.scp_script.proofs.NoteLemmas.{line-stepped, over-alone, input-closed, left-at, never-short, spent-line, answer-kept}
 use Rattle.scp_script.proofs.PortLemmas.{left-kept}
 use Rattle.scp_script.proofs.UsedLemmas.{line-used, end-used, lines-told, still-ended}
-use Rattle.scp_script.proofs.SpendingLemmas.{paid-text}
+use Rattle.session_texts.specs.declared.texts.Texts.{Texts as HeldTexts}
+use Rattle.session_texts.proofs.OpenLemmas.{stack-as}
+use Rattle.scp_script.proofs.SpendingLemmas.{opens-failed, opens-since, paid-text, denied-text}
 use Rattle.scp_script.proofs.command_loop.input_line.Goals as goal
 
 pub returns-in-Err-clause-told : goal.returns-in-Err-clause-told
@@ -307,15 +309,29 @@ returns-in-TooLong-clause-keeps g c =
     let files = g.F.Files.state c.args.files.now in
     subst (λ (x : CommandState). AreKept notes x.notes files files) (sym c.read_paid.ensures.rest) (kept-none notes files)
 
--- ---- what was spent
+-- ---- what was spent, and on what
 
 pub returns-in-Line-clause-ends : goal.returns-in-Line-clause-ends
 returns-in-Line-clause-ends g c =
-    paid-text c.args.lines.now.reads c.args.lines.now.budget c.read_paid.new.lines.budget _ _ c.answer.result c.in-Line.ensures.pays c.answer.ensures.counts
+    paid-text c.args.lines.now.reads [] [] c.args.lines.now.budget c.read_paid.new.lines.budget _ _ c.line.result.now c.answer.result c.in-Line.ensures.pays c.requires.reads c.answer.ensures.counts
+    c.answer.ensures.asked
 
 pub returns-in-TooLong-clause-ends : goal.returns-in-TooLong-clause-ends
 returns-in-TooLong-clause-ends g c =
-    paid-text c.args.lines.now.reads c.args.lines.now.budget c.read_paid.new.lines.budget _ _ c.deny_line.result c.in-TooLong.ensures.pays c.deny_line.ensures.counts
+    denied-text c.args.lines.now.reads [] [] c.args.lines.now.budget c.read_paid.new.lines.budget _ _ c.deny_line.result c.deny_line.ensures.counts c.deny_line.ensures.stays
 
 pub returns-in-Unpaid-clause-ends : goal.returns-in-Unpaid-clause-ends
-returns-in-Unpaid-clause-ends g c = inl c.in-Unpaid.ensures.pays
+returns-in-Unpaid-clause-ends g c = (c.requires.reads, c.in-Unpaid.ensures.pays)
+
+pub returns-in-Line-clause-scripts : goal.returns-in-Line-clause-scripts
+returns-in-Line-clause-scripts g c =
+    let old = c.args.lines.now.texts.scripts in
+    let mid = c.read_paid.new.lines.texts.scripts in
+    opens-since old mid c.answer.new.texts.scripts c.answer.result (λ first most. stack-as first most old mid (ap (λ (t : HeldTexts). t.scripts) c.read_paid.ensures.texts)) c.answer.ensures.scripts
+
+pub returns-in-TooLong-clause-scripts : goal.returns-in-TooLong-clause-scripts
+returns-in-TooLong-clause-scripts g c =
+    let old = c.args.lines.now.texts.scripts in
+    let mid = c.read_paid.new.lines.texts.scripts in
+    opens-since old mid c.deny_line.new.texts.scripts c.deny_line.result (λ first most. stack-as first most old mid (ap (λ (t : HeldTexts). t.scripts) c.read_paid.ensures.texts))
+    (opens-failed _ mid c.deny_line.new.texts.scripts c.deny_line.result c.deny_line.ensures.scripts)

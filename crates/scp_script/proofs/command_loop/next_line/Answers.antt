@@ -6,13 +6,16 @@ use Rattle.command_session.specs.Live.{CommandState, beyond}
 use Rattle.command_session.specs.LinesLeft.{LinesLeft}
 use Rattle.scp_script.specs.declared.progress.Progress.TheVariants.{IsOver}
 use Rattle.scp_script.specs.declared.progress.Finish.TheVariants.{Exit, OutOfMemory}
-use Rattle.scp_script.specs.Actions.{texts_of}
+use Rattle.session_texts.specs.Actions.{texts_of}
 use Rattle.scp_script.specs.Loop.{session_of, Stepped}
 use Rattle.scp_script.specs.Used.{NextTold}
 use Rattle.scp_script.proofs.UsedLemmas.{told-still}
 use Rattle.scp_script.proofs.LineLemmas.{none-read, all-done}
 use Rattle.scp_script.proofs.NoteLemmas.{over-alone, room-refused, left-at, closed-before}
 use Rattle.scp_script.proofs.PortLemmas.{left-kept}
+use Rattle.session_texts.specs.Scripts.{still_open}
+use Rattle.session_texts.proofs.OpenLemmas.{stack-as, stack-still}
+use Rattle.scp_script.proofs.SpendingLemmas.{opens-since, cause-as}
 use Rattle.scp_script.proofs.command_loop.next_line.Goals as goal
 
 pub returns-then-is_err-clause-told : goal.returns-then-is_err-clause-told
@@ -155,7 +158,33 @@ returns-in-None-clause-still g c = λ source untold whole next.
     (told-still g.F.Files.tells g.L.Lines.tells (session_of session named lines left []) scripts (c.is_empty.ensures.0 c.if-not-is_empty.false) (c.in-None.ensures.taken.0 ∙ sym c.in-None.ensures.taken.1) next) in
     c.input_line.ensures.still (source c.if-lines.true) untold whole used
 
--- ---- what was spent
+-- ---- what was spent, and on what
+
+pub returns-in-Some-clause-ends : goal.returns-in-Some-clause-ends
+returns-in-Some-clause-ends g c =
+    let lines = c.args.lines.now in
+    cause-as lines.reads lines.reads lines.texts.actions [] (still_open lines.texts.scripts) (c.in-Some.script ∷ c.pop_open.new.self) lines.budget c.script_line.new.lines.budget c.script_line.result refl
+    (c.is_empty.ensures.0 c.if-not-is_empty.false) c.in-Some.ensures.taken c.script_line.ensures.ends
+
+pub returns-in-None-clause-ends : goal.returns-in-None-clause-ends
+returns-in-None-clause-ends g c =
+    let lines = c.args.lines.now in
+    cause-as lines.reads lines.reads lines.texts.actions [] (still_open lines.texts.scripts) [] lines.budget c.input_line.new.lines.budget c.input_line.result refl
+    (c.is_empty.ensures.0 c.if-not-is_empty.false) c.in-None.ensures.taken.0 c.input_line.ensures.ends
 
 pub returns-in-None-2-clause-ends : goal.returns-in-None-2-clause-ends
-returns-in-None-2-clause-ends g c = inr (c.if-lines.false, refl)
+returns-in-None-2-clause-ends g c = inr ((c.if-lines.false, c.is_empty.ensures.0 c.if-not-is_empty.false, c.in-None-2.ensures.taken.0), refl)
+
+pub returns-in-Some-clause-scripts : goal.returns-in-Some-clause-scripts
+returns-in-Some-clause-scripts g c =
+    let old = c.args.lines.now.texts.scripts in
+    let mid = c.in-Some.script ∷ c.pop_open.new.self in
+    opens-since old mid c.script_line.new.lines.texts.scripts c.script_line.result
+    (λ first most stack. stack-as first most (still_open old) mid (sym c.in-Some.ensures.taken) (stack-still first most old stack)) c.script_line.ensures.scripts
+
+pub returns-in-None-clause-scripts : goal.returns-in-None-clause-scripts
+returns-in-None-clause-scripts g c =
+    let old = c.args.lines.now.texts.scripts in
+    let mid = c.pop_open.new.self in
+    opens-since old mid c.input_line.new.lines.texts.scripts c.input_line.result
+    (λ first most stack. stack-as first most (still_open old) mid (c.in-None.ensures.taken.1 ∙ sym c.in-None.ensures.taken.0) (stack-still first most old stack)) c.input_line.ensures.scripts

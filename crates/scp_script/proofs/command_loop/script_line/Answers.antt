@@ -1,4 +1,4 @@
-use Rattle.std.proofs.Common.{inr, ◌≡◌, ◌<◌, ◌≤◌, ◌-◌, ℕ, List, [], ◌∷◌, Err, refl, ap, sym, ◌∙◌, subst, arith, ◌++◌}
+use Rattle.std.proofs.Common.{◌≡◌, ◌<◌, ◌≤◌, ◌-◌, ℕ, List, [], ◌∷◌, Err, refl, ap, sym, ◌∙◌, subst, arith, ◌++◌}
 use Rattle.file_commands.specs.Notes.{Note, notes_said}
 use Rattle.scp_parser.specs.declared.fault.ParseFault.TheVariants.{TooLong}
 use Rattle.command_session.specs.declared.fault.CommandFault.TheVariants.{Parse}
@@ -12,9 +12,9 @@ use Rattle.scp_script.specs.declared.progress.CommandLoop.{CommandLoop}
 use Rattle.scp_script.specs.declared.progress.Progress.TheVariants.{IsOver}
 use Rattle.scp_script.specs.declared.progress.Finish.TheVariants.{Commands, Console}
 use Rattle.scp_script.specs.Session.{spent_more}
-use Rattle.scp_script.specs.Actions.{Texts, texts_of}
-use Rattle.scp_script.specs.Scripts.{Script, cost_of_line, text_of_line, echo_text, past_line, checked}
-use Rattle.scp_script.specs.Loop.{IsShort, Answers, AreKept, coming, session_of}
+use Rattle.session_texts.specs.Actions.{Texts, texts_of, coming}
+use Rattle.session_texts.specs.Scripts.{Script, cost_of_line, text_of_line, echo_text, past_line, checked}
+use Rattle.scp_script.specs.Loop.{IsShort, Answers, AreKept, session_of}
 use Rattle.scp_script.proofs.SessionLemmas.{upcoming-unpaid, asking-unpaid, asking-script}
 use Rattle.scp_script.proofs.TextLemmas.{answers-none}
 use Rattle.scp_script.proofs.LineLemmas.{asking-refused, text-unpaid, some-fits, none-fits}
@@ -22,7 +22,8 @@ use Rattle.scp_script.proofs.NoteLemmas.{script-stepped, over-alone, left-at, ne
 use Rattle.scp_script.proofs.WholeLemmas.{kept-none}
 use Rattle.scp_script.proofs.PortLemmas.{left-kept}
 use Rattle.scp_script.proofs.UsedLemmas.{script-used}
-use Rattle.scp_script.proofs.SpendingLemmas.{paid-text}
+use Rattle.session_texts.proofs.OpenLemmas.{stack-as, stack-past}
+use Rattle.scp_script.proofs.SpendingLemmas.{opens-failed, opens-since, paid-text, denied-text}
 use Rattle.scp_script.proofs.command_loop.script_line.Goals as goal
 
 pub returns-then-not-pay-clause-told : goal.returns-then-not-pay-clause-told
@@ -234,19 +235,42 @@ returns-then-not-pay-clause-keeps g c =
     let files = g.F.Files.state c.args.files.now in
     subst (λ (x : CommandState). AreKept notes x.notes files files) (sym c.pay.ensures.rest) (kept-none notes files)
 
--- ---- what was spent
+-- ---- what was spent, and on what
 
 pub returns-then-not-pay-clause-ends : goal.returns-then-not-pay-clause-ends
-returns-then-not-pay-clause-ends g c =
-    let unpaid = c.pay.ensures.unpaid c.if-not-pay.true in
-    inr (record { script = c.args.script; more = c.requires.line; short = omega (arith, unpaid.0, unpaid.1, c.line_cost.ensures) })
+returns-then-not-pay-clause-ends g c = let unpaid = c.pay.ensures.unpaid c.if-not-pay.true in omega (arith, unpaid.0, unpaid.1, c.line_cost.ensures)
 
 pub returns-in-Some-clause-ends : goal.returns-in-Some-clause-ends
 returns-in-Some-clause-ends g c =
+    let script = c.args.script in
+    let lines = c.args.lines.now in
     let paid = c.pay.ensures.paid c.if-not-pay.false in
-    paid-text c.args.lines.now.reads c.args.lines.now.budget c.pay.new.lines.budget _ _ c.answer.result (omega (arith, paid.0, paid.1, c.line_cost.ensures)) c.answer.ensures.counts
+    let line : c.as_slice.result.now ≡ text_of_line script = c.as_slice.ensures ∙ some-fits c.in-Some.text (text_of_line script) (sym c.in-Some.is ∙ c.take_line-text.ensures.text) in
+    paid-text lines.reads [] (script ∷ lines.texts.scripts) lines.budget c.pay.new.lines.budget _ _ c.as_slice.result.now c.answer.result (omega (arith, paid.0, paid.1, c.line_cost.ensures)) line
+    c.answer.ensures.counts c.answer.ensures.asked
 
 pub returns-in-None-clause-ends : goal.returns-in-None-clause-ends
 returns-in-None-clause-ends g c =
-    let paid = c.pay.ensures.paid c.if-not-pay.false in
-    paid-text c.args.lines.now.reads c.args.lines.now.budget c.pay.new.lines.budget _ _ c.deny_line.result (omega (arith, paid.0, paid.1, c.line_cost.ensures)) c.deny_line.ensures.counts
+    let lines = c.args.lines.now in
+    denied-text lines.reads [] (c.args.script ∷ lines.texts.scripts) lines.budget c.pay.new.lines.budget _ _ c.deny_line.result c.deny_line.ensures.counts c.deny_line.ensures.stays
+
+pub returns-in-Some-clause-scripts : goal.returns-in-Some-clause-scripts
+returns-in-Some-clause-scripts g c =
+    let script = c.args.script in
+    let outer = c.args.lines.now.texts.scripts in
+    let mid = c.push.new.self in
+    let pushed : mid ≡ past_line script ∷ outer =
+    c.push.ensures ∙ ap (λ (x : Script). x ∷ c.pay.new.lines.texts.scripts) c.take_line-text.ensures.past ∙ ap (λ (x : CommandLoop). past_line script ∷ x.texts.scripts) c.pay.ensures.lines in
+    opens-since (script ∷ outer) mid c.answer.new.texts.scripts c.answer.result
+    (λ first most stack. stack-as first most (past_line script ∷ outer) mid pushed (stack-past first most script outer stack)) c.answer.ensures.scripts
+
+pub returns-in-None-clause-scripts : goal.returns-in-None-clause-scripts
+returns-in-None-clause-scripts g c =
+    let script = c.args.script in
+    let outer = c.args.lines.now.texts.scripts in
+    let mid = c.push.new.self in
+    let pushed : mid ≡ past_line script ∷ outer =
+    c.push.ensures ∙ ap (λ (x : Script). x ∷ c.pay.new.lines.texts.scripts) c.take_line-text.ensures.past ∙ ap (λ (x : CommandLoop). past_line script ∷ x.texts.scripts) c.pay.ensures.lines in
+    opens-since (script ∷ outer) mid c.deny_line.new.texts.scripts c.deny_line.result
+    (λ first most stack. stack-as first most (past_line script ∷ outer) mid pushed (stack-past first most script outer stack))
+    (opens-failed _ mid c.deny_line.new.texts.scripts c.deny_line.result c.deny_line.ensures.scripts)

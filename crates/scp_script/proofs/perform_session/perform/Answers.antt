@@ -1,4 +1,4 @@
-use Rattle.std.proofs.Common.{◌≡◌, ◌-◌, IsTrue, true, List, [], Option, refl, ap, sym, ◌∙◌, subst, arith}
+use Rattle.std.proofs.Common.{◌≡◌, ◌-◌, Bool, IsTrue, true, List, [], Option, refl, ap, sym, ◌∙◌, subst, arith}
 use Rattle.unit_list.specs.Bus.{kinds_of}
 use Rattle.unit_files.specs.Attachments.{Held}
 use Rattle.unit_files.specs.Open.{AllOpen, Around}
@@ -8,7 +8,10 @@ use Rattle.file_commands.specs.Notes.{Note, notes_said}
 use Rattle.file_commands.proofs.OwnFiles.{unused, own-both}
 use Rattle.scp_script.specs.Session.{Session}
 use Rattle.scp_script.specs.declared.progress.CommandLoop.{CommandLoop}
-use Rattle.scp_script.specs.Scripts.{first_script}
+use Rattle.session_texts.specs.Scripts.{first_script, still_open, AreFiles}
+use Rattle.session_texts.specs.Actions.{coming}
+use Rattle.session_texts.proofs.OpenLemmas.{first-one, stack-first}
+use Rattle.scp_script.specs.Spending.{FinishAt}
 use Rattle.scp_script.specs.Perform.{beginning, beginning_with}
 use Rattle.host_lines.specs.Traffic.{Answer as LineAnswer}
 use Rattle.host_lines.specs.Told.{IsFirst, record_in}
@@ -20,20 +23,25 @@ use Rattle.command_session.specs.Live.{CommandState, beyond}
 use Rattle.scp_script.specs.Loop.{AreKept, session_of}
 use Rattle.scp_script.proofs.WholeLemmas.{ComesSoFar, begun, never-begun, further, over, kept-none, kept-both, causes-behind, kept-since}
 use Rattle.scp_script.proofs.UsedLemmas.{next-told, grown}
-use Rattle.scp_script.proofs.SpendingLemmas.{spent-before}
+use Rattle.scp_script.proofs.SpendingLemmas.{begins-so, goes-so, ends-so}
 use Rattle.scp_script.proofs.perform_session.perform.Goals as goal
 
 pub lines-init : goal.lines-init
 unfolding beginning beginning_with
 lines-init g c =
-    let started = c.in-Ok.ensures in
+    let started = c.in-Ok.ensures.first in
     let budget : c.in-Ok.texts.budget ≡ c.args.opening.now.budget = ap (λ (x : CommandLoop). x.budget) started in
+    let opening = c.args.opening.now in
+    let first = first_script opening.script opening.arguments.items in
+    let scripts : c.in-Ok.texts.texts.scripts ≡ first = ap (λ (x : CommandLoop). x.texts.scripts) started in
     record {
       paid = omega (arith, budget);
       command = omega (arith, budget);
       limit = refl;
       keys = refl;
       reads = ap (λ (x : CommandLoop). x.reads) started;
+      come = begins-so first (opening.budget - c.in-Ok.texts.budget) c.in-Ok.texts.texts.actions c.in-Ok.texts.texts.scripts (omega (arith, budget))
+          (stack-first first (first-one opening.script opening.arguments.items) (subst AreFiles scripts c.in-Ok.ensures.files)) (ap (λ (x : CommandLoop). x.texts.actions) started) scripts;
       unread = λ off. refl;
       told = λ enough source used apart sink whole begins.
           let ports = g.L.Lines.state c.args.lines.now in
@@ -65,6 +73,8 @@ lines-preserved g c =
       limit = ap (λ (x : CommandState). x.limit) is ∙ c.in-GoesOn.ensures.limit ∙ c.lines.invariant.limit;
       keys = ap (λ (x : CommandState). x.keys) is ∙ c.in-GoesOn.ensures.keys ∙ c.lines.invariant.keys;
       reads = c.in-GoesOn.ensures.reads ∙ c.lines.invariant.reads;
+      come = goes-so (first_script c.args.opening.now.script c.args.opening.now.arguments.items) c.args.opening.now.budget c.lines.texts.budget c.next_line.new.lines.budget c.lines.texts.texts.actions
+          c.next_line.new.lines.texts.actions c.lines.texts.texts.scripts c.next_line.new.lines.texts.scripts c.in-GoesOn.ensures.pays c.lines.invariant.paid c.lines.invariant.come c.in-GoesOn.ensures.scripts;
       unread = λ off. c.in-GoesOn.ensures.unread (c.lines.invariant.reads ∙ off) ∙ c.lines.invariant.unread off;
       told = λ enough source used apart sink whole begins.
           let ports = g.L.Lines.state c.args.lines.now in
@@ -154,12 +164,20 @@ returns-in-IsOver-clause-command g c =
     let left = c.next_line.new.lines.budget in
     let pays = c.in-IsOver.ensures.pays in
     let paid = c.lines.invariant.paid in
+    let first = first_script c.args.opening.now.script c.args.opening.now.arguments.items in
+    let texts = c.lines.texts.texts in
     record {
       paid = budget - left;
       within = omega arith;
       number = omega (arith, c.lines.invariant.command, paid, c.in-IsOver.ensures.command, pays);
-      cause = spent-before c.args.opening.now.reads c.lines.texts.reads (c.lines.texts.budget - left) (budget - left) left (budget - (budget - left)) c.in-IsOver.finish c.lines.invariant.reads
-          (omega (arith, paid)) (omega (arith, paid, pays)) c.in-IsOver.ensures.ends;
+      cause = ends-so c.args.opening.now.reads first budget c.in-IsOver.finish left (budget - (budget - left)) (omega (arith, paid, pays)) (record {
+        before = c.lines.texts.budget;
+        within = paid;
+        fell = pays;
+        texts = coming texts;
+        come = c.lines.invariant.come;
+        at = subst (λ (b : Bool). FinishAt b texts.actions (still_open texts.scripts) c.lines.texts.budget c.in-IsOver.finish left) c.lines.invariant.reads c.in-IsOver.ensures.ends;
+      });
     }
 
 pub returns-in_default-clause-command : goal.returns-in_default-clause-command

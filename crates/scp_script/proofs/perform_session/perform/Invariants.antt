@@ -14,6 +14,8 @@ use Rattle.scp_script.specs.Session.{spent_more}
 use Rattle.scp_script.specs.Perform.{beginning}
 use Rattle.scp_script.specs.Loop.{AreKept, NumbersSuffice, session_of}
 use Rattle.scp_script.specs.Used.{CourseTold}
+use Rattle.session_texts.specs.Scripts.{first_script}
+use Rattle.scp_script.specs.Spending.{CanCome}
 use Rattle.scp_script.proofs.WholeLemmas.{ComesSoFar}
 use Rattle.scp_script.proofs.perform_session.perform.Given as goal
 
@@ -24,6 +26,7 @@ invariant-lines g l = record {
   limit : l.session.limit ≡ l.fn.session.limit;
   keys : l.session.keys ≡ l.fn.session.keys;
   reads : l.texts.reads ≡ l.fn.opening.reads;
+  come : CanCome (first_script l.fn.opening.script l.fn.opening.arguments.items) (l.fn.opening.budget - l.texts.budget) l.texts.texts.actions l.texts.texts.scripts;
   unread : l.fn.opening.reads ≡ false → l.input ≡ l.fn.input;
   told : NumbersSuffice l.fn.session.command l.fn.opening.budget → (l.fn.opening.reads ≡ true → IsTrue g.C.Source.tells)
       → CourseTold g.F.Files.tells g.L.Lines.tells

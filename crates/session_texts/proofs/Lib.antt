@@ -1,0 +1,4 @@
+pub mod EchoLemmas
+pub mod StackLemmas
+pub mod ReadingLemmas
+pub mod OpenLemmas
