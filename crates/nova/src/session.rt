@@ -13,7 +13,7 @@ ghost use Rattle.command_words.specs.Standard.{IsStandard};
 ghost use Rattle.command_words.specs.Words.{options_of, texts_of};
 ghost use Rattle.nova_top.specs.Ends.{IsOutcome, IsCutShort, StatusCause, MachineThere, IsComplete, FilesAtEnd};
 ghost use Rattle.nova_top.specs.Ends.{LinesAtEnd, NoneFailed, KeptUnwritten, HasWorkload, InputTells};
-ghost use Rattle.nova_top.specs.Unread.{IsUnopened, AreMeasured, HasNoKeys};
+ghost use Rattle.program_start.specs.Unread.{IsUnopened, AreMeasured, HasNoKeys};
 ghost use Rattle.nova_top.specs.Resumption.{ResumesSaved};
 ghost use Rattle.nova_top.specs.Used.{ProgramTold};
 ghost use Rattle.nova.specs.Ends.{OfSomeEnding, Promised};

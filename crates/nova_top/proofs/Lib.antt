@@ -1,7 +1,5 @@
 pub mod OutsideLemmas
-pub mod WorkloadLemmas
-pub mod WordFileLemmas
-pub mod ReadingLemmas
+pub mod OpeningLemmas
 pub mod UnreadLemmas
 pub mod PortLemmas
 pub mod ProgramLemmas

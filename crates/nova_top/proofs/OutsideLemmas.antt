@@ -1,9 +1,9 @@
 -- The whole program against its outcome.
-use Rattle.std.proofs.Common.{◌≡◌, ◌≢◌, inl, inr, ℕ, zero, suc, ◌+◌, ◌-◌, nat_le, Bool, true, false, if◌then◌else◌, ◌<◌, ◌≤◌, List, [], ◌++◌, length, take, drop, refl, ap, sym, ◌∙◌, arith, append-nil, length-take-le, Option, Some, None}
+use Rattle.std.proofs.Common.{◌≡◌, ◌≢◌, inl, inr, ℕ, zero, suc, ◌+◌, ◌-◌, nat_le, Bool, true, false, if◌then◌else◌, ◌<◌, List, [], ◌++◌, length, take, drop, refl, ap, sym, ◌∙◌, arith, append-nil, length-take-le, Option, Some, None}
 use Rattle.file_traits.specs.Lists.{NamedBytes}
-use Rattle.observations.specs.Observations.{text_of, Trace}
+use Rattle.observations.specs.Observations.{Trace}
 use Rattle.observations.specs.Cut.{ends, cut_trace, sent_until, map_outcome}
-use Rattle.observations.proofs.CutLemmas.{cut-printed, cut-refused, cut-map, sent-map, more-room, sent-more-room, first-part, whole, all-sent}
+use Rattle.observations.proofs.CutLemmas.{cut-printed, cut-refused, cut-map, sent-map, whole, all-sent}
 use Rattle.file_commands.specs.Notes.{Note}
 use Rattle.expect_actions.specs.KeysFile.{Key}
 use Rattle.nova_machine.specs.Machine.{MachineState}
@@ -23,10 +23,10 @@ use Rattle.scp_script.specs.Perform.{IsSession}
 use Rattle.command_words.specs.declared.options.Options.{Options}
 use Rattle.command_words.specs.Words.{options_of}
 use Rattle.expect_actions.specs.Watch.{WatchState}
-use Rattle.nova_top.specs.Outside.{Outside, Left, left_by, Start, Refused, Begins, start_of, session_with, opening, trace_from, whole_trace, trace_of, outcome, sent_by}
-use Rattle.nova_top.specs.Ends.{IsOutcome, IsComplete, left_at, handed_in}
-use Rattle.nova_top.specs.Program.{IsRefused}
-use Rattle.nova_top.specs.Laws.{IsWholeOutcome}
+use Rattle.nova_top.specs.Outside.{Outside, Left, left_by, session_with, opening, trace_from, whole_trace, trace_of, outcome, sent_by}
+use Rattle.program_start.specs.Start.{Start, Refused, Begins, start_of}
+use Rattle.nova_top.specs.Ends.{IsOutcome, IsComplete, left_at, handed_in, IsWholeOutcome}
+use Rattle.program_start.specs.WordFiles.{IsRefused}
 
 -- the outcome by how it starts, and what was sent
 outcome-start : (words : List (List ℕ)) (input : List ℕ) (old : Beyond) (notes : List Note) (takes gives : ℕ) (start : Start) (used : ℕ) (own : List Note)
@@ -191,22 +191,7 @@ session-outcome words options keys keys' script input left before after old new 
           ∙ sent-map left_by t.made (length s.end.taken) s.gives));
     }
 
--- ---- the laws, at the outcome
-
-pub more-room-outcome : (o : Outside) (more : ℕ) → o.takes ≤ more → (outcome o).status ≢ 102
-    → (outcome (record o { takes = more }) ≡ outcome o) × (sent_by (record o { takes = more }) ≡ sent_by o)
-unfolding outcome sent_by
-more-room-outcome o more h s =
-    let t : Trace Left = trace_of o in (
-      more-room t.made t.ended o.takes more o.gives h s,
-      sent-more-room t.made t.ended o.takes more o.gives h s,
-    )
-
-pub first-part-outcome : (o : Outside) → (rest : List ℕ) × (text_of (trace_of o).made ≡ (outcome o).console ++ rest)
-unfolding outcome
-first-part-outcome o =
-    let t : Trace Left = trace_of o in
-    first-part t.made t.ended o.takes o.gives
+-- ---- without faults
 
 pub whole-outcome : (o : Outside) → (outcome o).status ≢ 102 → (outcome o).status ≢ 106 → IsWholeOutcome o
 unfolding outcome sent_by

@@ -1,12 +1,9 @@
 -- How the program starts and what its session comes to.
-use Rattle.std.proofs.Common.{◌≡◌, ◌≢◌, ◌⊎◌, inl, inr, ℕ, zero, suc, ◌<◌, ◌≤◌, Bool, true, false, IsTrue, List, [], ◌∷◌, ◌++◌, length, get_or, map, replicate, refl, ap, sym, ◌∙◌, subst, arith, append-nil, Option, Some, None, IfSome, IsSome, is_some, is_none, string_bytes, String, Global, Result, Ok, Err}
-use Rattle.std.proofs.lemmas.List.{length-map}
+use Rattle.std.proofs.Common.{◌≡◌, ◌≢◌, ◌⊎◌, inl, inr, ℕ, zero, suc, ◌≤◌, Bool, true, false, IsTrue, List, [], ◌∷◌, ◌++◌, length, get_or, map, replicate, refl, ap, sym, ◌∙◌, subst, arith, append-nil, Option, Some, None, IfSome, IsSome, is_some, is_none}
 use Rattle.std.proofs.Math.Seq.{drop-append_seam, drop-length}
 use Rattle.std.proofs.lemmas.Bool.{eq-eqb}
 use Rattle.fault_counts.specs.Faults.{raised, Rose}
-use Rattle.file_traits.specs.declared.streams.Failed.{Failed}
 use Rattle.file_traits.specs.Lists.{NamedBytes}
-use Rattle.file_traits.specs.Streams.{Puts}
 use Rattle.file_traits.specs.State.{FileState, Opened}
 use Rattle.file_traits.specs.declared.files.FileId.{FileId}
 use Rattle.host_lines.specs.Traffic.{Gone, Ahead, Answer as LineAnswer}
@@ -38,21 +35,22 @@ use Rattle.command_session.specs.Doing.{IsLate, ComeBehind}
 use Rattle.scp_script.specs.declared.progress.Finish.{Finish}
 use Rattle.scp_script.specs.declared.progress.Finish.TheVariants.{Exit, EndOfInput, FlushFailed, Commands, Console, Input, OutOfMemory}
 use Rattle.scp_script.specs.Session.{Session}
-use Rattle.scp_script.specs.Loop.{IsExitStatus, FinishCause, AreKept, KeptAs, KeptCause, MayFollow, status_of}
+use Rattle.scp_script.specs.Loop.{IsExitStatus, FinishCause, AreKept, KeptCause, MayFollow, status_of}
 use Rattle.scp_script.specs.declared.perform_session.Opening.{Opening}
 use Rattle.scp_script.specs.Perform.{beginning, beginning_with, IsSession, RunsShort, IsPerformed, Performed}
 use Rattle.command_words.specs.declared.options.Options.{Options}
 use Rattle.command_words.specs.Standard.{IsStandard, standard_units}
 use Rattle.session_texts.specs.Actions.{texts_of as waiting_texts}
-use Rattle.command_words.specs.Words.{options_of, texts_of}
-use Rattle.nova_top.specs.Workload.{with_workload}
-use Rattle.nova_top.specs.Outside.{Denial, Begins, Refused, denied, start_of, session_with, opening, usage_text, unopened_text}
-use Rattle.nova_top.specs.Ends.{IsOutcome, AreWordClosings, IsCutShort, HasKeysFile, HasScript, StatusCause, NoneFailed, IsComplete, KeptUnwritten, HasWorkload}
-use Rattle.nova_top.specs.declared.word_files.Refusal.{Refusal}
-use Rattle.nova_top.specs.declared.word_files.Refusal.TheVariants.{Unopened, BadKeys}
-use Rattle.nova_top.specs.declared.word_files.Refusal.TheVariants as refusal
-use Rattle.nova_top.specs.Program.{StartsWith, RefusalCause, OpensAs, script_text, denial_of, IsRefused, RefusedCause, status_printed, IsDenied, DeniedCause}
-use Rattle.nova_top.proofs.WordFileLemmas.{name-at}
+use Rattle.command_words.specs.Words.{options_of}
+use Rattle.program_start.specs.Workload.{with_workload}
+use Rattle.program_start.specs.Start.{Denial, Begins, Refused, denied, start_of, usage_text}
+use Rattle.nova_top.specs.Outside.{session_with, opening}
+use Rattle.nova_top.specs.Ends.{IsOutcome, IsCutShort, HasKeysFile, HasScript, StatusCause, NoneFailed, IsComplete, KeptUnwritten, HasWorkload}
+use Rattle.program_start.specs.WordFiles.{AreWordClosings, StartsWith, AddsNoted, RefusalCause, denial_of, IsRefused, RefusedCause, IsDenied, DeniedCause}
+use Rattle.program_start.specs.declared.word_files.Refusal.{Refusal}
+use Rattle.program_start.specs.declared.word_files.Refusal.TheVariants.{Unopened, BadKeys}
+use Rattle.program_start.specs.declared.word_files.Refusal.TheVariants as refusal
+use Rattle.nova_top.specs.Program.{OpensAs, script_text}
 use Rattle.nova_top.proofs.OutsideLemmas.{refused-outcome, session-outcome, complete}
 
 -- ---- a new machine has no file
@@ -113,7 +111,7 @@ pub record Begun (Told : Type 0) (words : List (List ℕ)) (options : Options) (
   pub files : Told → new.files ≡ old.files
   pub opens : OpensAs words options o
   pub starts : Told → StartsWith words options old.files (notes_said s.notes) (Begins options s.keys (script_text o))
-  pub keeps : KeptAs false [] s.notes old new
+  pub keeps : AddsNoted [] s.notes old new
 
 -- a session as it was made
 pub record Made (units : List UnitState) (options : Options) (s : CommandState) : Type 0 where
@@ -134,7 +132,7 @@ workload-slots (Some number) m = refl
 -- with what the files of the words say, and its workload
 pub begun-files : (Told : Type 0) (words : List (List ℕ)) (options : Options) (units : List UnitState) (i s : CommandState) (m : MachineState) (keys : List Key) (o : Opening) (notes : List FaultNote) (spare : ℕ) (old new : FileState)
     → Made units options s → i ≡ s → m ≡ with_workload options.workload i.machine → (Told → StartsWith words options old.files (notes_said notes) (Begins options keys (script_text o))) → OpensAs words options o
-    → (Told → new.files ≡ old.files) → new.opened ≡ old.opened → KeptAs false [] notes old new
+    → (Told → new.files ≡ old.files) → new.opened ≡ old.opened → AddsNoted [] notes old new
     → Begun Told words options (record { machine = m; watch = i.watch; keys = keys; limit = i.limit; notes = notes; command = i.command; spare = spare }) o old new
 begun-files Told words options units i s m keys o notes spare old new made same filled starts opens files opened keeps =
     let whole : m ≡ with_workload options.workload s.machine = filled ∙ ap (λ (u : CommandState). with_workload options.workload u.machine) same in
@@ -412,25 +410,6 @@ refused-at words options input before after old new status_there status text mac
     ∙ ap (λ (n : List Note). start_of (Some options) words old.files n) (sym (append-nil kept)) ∙ starts [] tt in
     refused-outcome words input before after old new status_there status text machine kept (length kept) start (drop-length kept) none same other refused
 
--- the text of a file that was not read, as the code prints it
-refused-by : {T : Type 0} (result : Result T Failed) (there : ℕ) (text : List ℕ) (status : ℕ) (before after : List ℕ) → Puts before text result after → status ≡ status_printed result there → IsRefused there text status before after
-refused-by (Ok value) there text status before after puts is = inl (is, puts)
-refused-by (Err failed) there text status before after puts is = inr (is, puts)
-
-place-there : (words : List (List ℕ)) (options : Options) (refusal : Refusal) (place : ℕ) → RefusalCause words options refusal → refusal ≡ Unopened place → place < length words
-place-there words options refusal place cause is = (subst (λ (r : Refusal). RefusalCause words options r) is cause).0
-
-pub unopened-denied : {T : Type 0} (words : List (String Global)) (options : Options) (refusal : Refusal) (place : ℕ) (word : String Global) (result : Result T Failed) (status : ℕ) (before after : List ℕ)
-    → RefusalCause (texts_of words) options refusal → refusal ≡ Unopened place → word ≡ get_or words place word → Puts before (unopened_text (string_bytes word)) result after → status ≡ status_printed result 101
-    → IsDenied (denial_of (texts_of words) refusal) status before after
-unopened-denied words options refusal place word result status before after cause refused is puts printed =
-    let many = length-map words (λ (w : String Global). string_bytes w) in
-    let there = place-there (texts_of words) options refusal place cause refused in
-    let within : place < length words = omega (arith, many, there) in
-    let name = name-at words place word within is in
-    subst (λ (r : Refusal). IsDenied (denial_of (texts_of words) r) status before after) (sym refused)
-    (subst (λ (n : List ℕ). IsRefused 101 (unopened_text n) status before after) (sym name) (refused-by result 101 (unopened_text (string_bytes word)) status before after puts printed))
-
 files-refused : (words : List (List ℕ)) (options : Options) (input before after : List ℕ) (old new : Beyond) (refusal : Refusal) (status : ℕ) (machine : Option MachineState) (kept : List Note)
     → options_of words ≡ Some options → IfSome (denial_of words refusal) (λ (d : Denial). StartsWith words options old.files kept (denied d)) → machine ≡ None → new ≡ old → status ≢ 103
     → IsDenied (denial_of words refusal) status before after → IsOutcome words input input before after old new status machine kept
@@ -533,32 +512,32 @@ no-notes (n ∷ items) old new counted none = absurd (by-file n.file refl)
         let one : one_if (is_of id.0 n.file) ≡ 1 = ap (λ (f : Option FileId). one_if (is_of id.0 f)) is ∙ ap one_if (eq-eqb id.0 id.0 refl) in
         none.0 id.0 (rose-some (noted id.0 (n ∷ items)) (old.faults id.0) (new.faults id.0) (omega (arith, one)) (counted.files id.0))
 
-pub kept-counted : (notes items : List FaultNote) (old mid new : FileState) → KeptAs false [] notes old mid → AreKept notes items mid new → AreCounted items old new
+pub kept-counted : (notes items : List FaultNote) (old mid new : FileState) → AddsNoted [] notes old mid → AreKept notes items mid new → AreCounted items old new
 kept-counted notes items old mid new first second =
-    let all = counted-both first.kept second.kept old mid new first.counted second.counted in
+    let all = counted-both first.more second.kept old mid new first.counted second.counted in
     subst (λ (l : List FaultNote). AreCounted l old new) (sym (second.added ∙ ap (λ (l : List FaultNote). l ++ second.kept) first.added)) all
 
 -- those of a file that was refused
-pub refused-counted : (before notes items : List FaultNote) (old new : FileState) → before ≡ [] → items ≡ notes → KeptAs false before notes old new → AreCounted items old new
+pub refused-counted : (before notes items : List FaultNote) (old new : FileState) → before ≡ [] → items ≡ notes → AddsNoted before notes old new → AreCounted items old new
 refused-counted before notes items old new none same kept =
-    subst (λ (l : List FaultNote). AreCounted l old new) (sym (same ∙ kept.added ∙ ap (λ (l : List FaultNote). l ++ kept.kept) none)) kept.counted
+    subst (λ (l : List FaultNote). AreCounted l old new) (sym (same ∙ kept.added ∙ ap (λ (l : List FaultNote). l ++ kept.more) none)) kept.counted
 
 -- and each call that failed has its own, but for the closing of a file that was given back
-pub kept-exact : (notes items : List FaultNote) (machine : Option MachineState) (old mid new : FileState) → KeptAs false [] notes old mid → AreKept notes items mid new → IsTrue (is_some machine)
+pub kept-exact : (notes items : List FaultNote) (machine : Option MachineState) (old mid new : FileState) → AddsNoted [] notes old mid → AreKept notes items mid new → IsTrue (is_some machine)
     → AreExact (is_some machine) items old new
 kept-exact notes items machine old mid new first second there =
-    let all = exact-both true first.kept second.kept old mid new (exact-kept true first.kept old mid first.exact) second.exact in
+    let all = exact-both true first.more second.kept old mid new (exact-kept true first.more old mid first.exact) second.exact in
     subst (λ (b : Bool). AreExact b items old new) (sym there)
     (subst (λ (l : List FaultNote). AreExact true l old new) (sym (second.added ∙ ap (λ (l : List FaultNote). l ++ second.kept) first.added)) all)
 
 pub no-exact : (items : List FaultNote) (machine : Option MachineState) (s : FileState) → items ≡ [] → AreExact (is_some machine) items s s
 no-exact items machine s none = subst (λ (l : List FaultNote). AreExact (is_some machine) l s s) (sym none) (exact-none (is_some machine) s)
 
-pub refused-exact : (before notes items : List FaultNote) (machine : Option MachineState) (old new : FileState) → before ≡ [] → items ≡ notes → KeptAs false before notes old new → machine ≡ None
+pub refused-exact : (before notes items : List FaultNote) (machine : Option MachineState) (old new : FileState) → before ≡ [] → items ≡ notes → AddsNoted before notes old new → machine ≡ None
     → AreExact (is_some machine) items old new
 refused-exact before notes items machine old new none same kept never =
     subst (λ (m : Option MachineState). AreExact (is_some m) items old new) (sym never)
-    (subst (λ (l : List FaultNote). AreExact false l old new) (sym (same ∙ kept.added ∙ ap (λ (l : List FaultNote). l ++ kept.kept) none)) kept.exact)
+    (subst (λ (l : List FaultNote). AreExact false l old new) (sym (same ∙ kept.added ∙ ap (λ (l : List FaultNote). l ++ kept.more) none)) kept.exact)
 
 pub complete-answer : (words : List (List ℕ)) (input left before after : List ℕ) (old new : Beyond) (status : ℕ) (machine : Option MachineState) (items : List FaultNote) (was now : FileState)
     → (status ≢ 102) × (status ≢ 106) → AreCounted items was now → NoneFailed was now
@@ -585,7 +564,7 @@ unwritten-finish Input m notes old new small is kept = absurd (omega (arith, is)
 unwritten-finish OutOfMemory m notes old new small is kept = absurd (omega (arith, is))
 
 -- since before its files of the words were read
-pub unwritten-whole : (machine : Option MachineState) (notes before before' : List FaultNote) (old mid new : FileState) → KeptAs false before before' old mid → KeptUnwritten machine notes mid new
+pub unwritten-whole : (machine : Option MachineState) (notes before before' : List FaultNote) (old mid new : FileState) → AddsNoted before before' old mid → KeptUnwritten machine notes mid new
     → KeptUnwritten machine notes old new
 unwritten-whole None notes before before' old mid new a k = k
 unwritten-whole (Some m) notes before before' old mid new a k = unwritten-since m.slots notes old mid new (λ file. (a.counted.files file).0) k

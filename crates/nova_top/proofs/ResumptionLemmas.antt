@@ -1,5 +1,4 @@
--- A program in which a saved session was restored goes on from there as that session, and as the program goes on that has
--- saved it.
+-- A program in which a saved session was restored goes on from there as that session.
 use Rattle.std.proofs.Common.{◌≡◌, ◌≢◌, ℕ, suc, ◌+◌, List, ◌++◌, length, drop, refl, ap, sym, ◌∙◌}
 use Rattle.std.proofs.lemmas.List.{drop-drop}
 use Rattle.std.specs.Prelude.{Option}
@@ -15,20 +14,20 @@ use Rattle.nova_machine.specs.Machine.{MachineState}
 use Rattle.nova_machine.specs.LineChanges.{heard_with}
 use Rattle.command_session.specs.Live.{Beyond}
 use Rattle.scp_script.specs.Session.{State, Session, asking, Course, trace, ComesTo}
-use Rattle.script_laws.specs.Resumption.{resumed, behind_save, SavedAndRestored}
+use Rattle.script_laws.specs.Resumption.{resumed}
 use Rattle.script_laws.proofs.CoreLemmas.{course-behind}
 use Rattle.script_laws.specs.Valid.{ValidSession}
 use Rattle.script_laws.proofs.LawLemmas.{lines-are-consumed}
-use Rattle.script_laws.proofs.ValidSessions.{sessions-stay-valid}
-use Rattle.script_laws.proofs.ResumptionLemmas.{restored-comes, saves-come, traces-saved, saved-and-restored-go-on-alike}
+use Rattle.script_laws.proofs.ResumptionLemmas.{restored-comes}
 use Rattle.command_words.specs.declared.options.Options.{Options}
 use Rattle.command_words.specs.Words.{options_of}
-use Rattle.nova_top.specs.Outside.{Outside, Start, Begins, Left, left_by, start_of, opening, trace_from, trace_of, whole_trace, outcome, session_with, sent_by}
+use Rattle.nova_top.specs.Outside.{Outside, Left, left_by, opening, trace_from, trace_of, whole_trace, outcome, session_with, sent_by}
+use Rattle.program_start.specs.Start.{Start, Begins, start_of}
 use Rattle.nova_top.specs.Ends.{IsOutcome, handed_in}
-use Rattle.nova_top.specs.Resumption.{Reaches, EndsAsThat, ResumesSaved, Ran, IsRun, EndAlike, RestoredProgramsGoOn}
-use Rattle.nova_top.specs.ValidLaws.{AreHandedBytes}
+use Rattle.nova_top.specs.Resumption.{Reaches, EndsAsThat, ResumesSaved}
+use Rattle.nova_top.specs.Valid.{AreHandedBytes}
 use Rattle.nova_top.proofs.OutsideLemmas.{whole-outcome}
-use Rattle.nova_top.proofs.ValidProgram.{program-stays-valid}
+use Rattle.nova_top.proofs.ValidProgram.{program-begins-valid}
 
 -- the trace of a program whose session begins so
 whole-is : (words : List (List ℕ)) (input : List ℕ) (files : List NamedBytes) (ahead : Ahead) (notes : List Note) (start : Start × ℕ) → start_of (options_of words) words files notes ≡ start
@@ -52,7 +51,7 @@ read-behind count s t made more comes =
     sym (drop-drop more (reads_of made) s.input) ∙ ap (λ (n : ℕ). drop more (drop n s.input)) is.reads ∙ ap (drop more) (sym is.rest)
 
 -- a program whose session came so far ends as that one does
-ends-behind : (words : List (List ℕ)) (input left before after : List ℕ) (old new : Beyond) (status : ℕ) (machine : Option MachineState) (notes : List Note) (options : Options) (keys : List Key) (script : Option (List ℕ)) (used count : ℕ)
+pub ends-behind : (words : List (List ℕ)) (input left before after : List ℕ) (old new : Beyond) (status : ℕ) (machine : Option MachineState) (notes : List Note) (options : Options) (keys : List Key) (script : Option (List ℕ)) (used count : ℕ)
     (front : List (Observation State)) (t : Session) → IsOutcome words input left before after old new status machine notes → status ≢ 102 → status ≢ 106
     → start_of (options_of words) words old.files notes ≡ (Begins options keys script, used)
     → ComesTo count (opening words options keys script old.files (ahead_of old.lines.told old.whole) input (drop used notes)) front t
@@ -82,11 +81,11 @@ ends-behind words input left before after old new status machine notes options k
     }
 
 -- the session that it begins
-begins-valid : (words : List (List ℕ)) (input : List ℕ) (old : Beyond) (notes : List Note) (front : List (Observation State)) (at : Session)
+pub begins-valid : (words : List (List ℕ)) (input : List ℕ) (old : Beyond) (notes : List Note) (front : List (Observation State)) (at : Session)
     → AreHandedBytes words input old.files (ahead_of old.lines.told old.whole) → (reaches : Reaches words input old notes front at)
     → ValidSession (opening words reaches.options reaches.keys reaches.script old.files (ahead_of old.lines.told old.whole) input (drop reaches.used notes))
 begins-valid words input old notes front at handed reaches =
-    (program-stays-valid.begin words input old.files (ahead_of old.lines.told old.whole) notes (drop reaches.used notes) reaches.options reaches.keys reaches.script handed
+    (program-begins-valid words input old.files (ahead_of old.lines.told old.whole) notes (drop reaches.used notes) reaches.options reaches.keys reaches.script handed
     (ap (λ (x : Start × ℕ). x.0) reaches.starts)).valid
 
 pub resumes-saved : (words : List (List ℕ)) (input left before after : List ℕ) (old new : Beyond) (status : ℕ) (machine : Option MachineState) (notes : List Note) → IsOutcome words input left before after old new status machine notes
@@ -95,37 +94,3 @@ resumes-saved words input left before after old new status machine notes out no_
     let start = opening words reaches.options reaches.keys reaches.script old.files (ahead_of old.lines.told old.whole) input (drop reaches.used notes) in
     ends-behind words input left before after old new status machine notes reaches.options reaches.keys reaches.script reaches.used (suc reaches.count) (front ++ asking at) (resumed s used behind) out no_byte no_read reaches.starts
     (restored-comes reaches.count start at behind s used front (begins-valid words input old notes front at handed reaches) reaches.comes back)
-
--- ---- the program that has saved it
-
-alike : (one other : Ran) (front begin : List (Observation State)) (saving behind restoring present : Session) (name : List ℕ) (used : ℕ) → IsRun one → IsRun other
-    → Reaches one.words one.input one.old one.notes front saving → Reaches other.words other.input other.old other.notes begin restoring
-    → SavedAndRestored saving behind restoring present name used → EndAlike (front ++ asking saving) (begin ++ asking restoring) one other
-alike one other front begin saving behind restoring present name used first second reaches comes both =
-    let s = (behind_save name behind).live in
-    let start = opening one.words reaches.options reaches.keys reaches.script one.old.files (ahead_of one.old.lines.told one.old.whole) one.input (drop reaches.used one.notes) in
-    let other_start = opening other.words comes.options comes.keys comes.script other.old.files (ahead_of other.old.lines.told other.old.whole) other.input (drop comes.used other.notes) in
-    let valid = sessions-stay-valid.all reaches.count start saving front (begins-valid one.words one.input one.old one.notes front saving first.handed reaches) reaches.comes in
-    let fresh = sessions-stay-valid.all comes.count other_start restoring begin (begins-valid other.words other.input other.old other.notes begin restoring second.handed comes) comes.comes in
-    let a = ends-behind one.words one.input one.left one.before one.after one.old one.new one.status one.machine one.notes reaches.options reaches.keys reaches.script reaches.used (suc reaches.count) (front ++ asking saving) (behind_save name behind)
-    first.outcome first.no_byte first.no_read reaches.starts (saves-come reaches.count start saving behind name front reaches.comes both.saves) in
-    let b = resumes-saved other.words other.input other.left other.before other.after other.old other.new other.status other.machine other.notes second.outcome second.no_byte second.no_read begin restoring present s used second.handed comes
-    (saved-and-restored-go-on-alike.restores saving behind restoring present name used valid fresh both) in
-    let same = traces-saved saving behind restoring present name used both in
-    record {
-      statuses = a.status_is ∙ ap (λ (z : Trace State). z.ended.status) same ∙ sym b.status_is;
-      states = a.is ∙ ap (λ (z : Trace State). left_by z.ended.state) same ∙ sym b.is;
-      rests = a.rest ∙ ap (λ (z : Trace State). drop (reads_of z.made) behind.input) same ∙ ap (drop (reads_of (trace (resumed s used present)).made)) (sym both.outside.input) ∙ sym b.rest;
-      added = text_of (trace (behind_save name behind)).made;
-      first = a.printed;
-      second = b.printed ∙ ap (λ (z : Trace State). other.before ++ (text_of (begin ++ asking restoring) ++ text_of z.made)) (sym same);
-      sent = sent_of (trace (behind_save name behind)).made;
-      first_heard = a.heard;
-      second_heard = b.heard ∙ ap (λ (z : Trace State). heard_with other.old.lines.sent (sent_of (begin ++ asking restoring) ++ sent_of z.made)) (sym same);
-    }
-
-pub restored-programs-go-on : RestoredProgramsGoOn
-restored-programs-go-on = record {
-  restored = λ r run. resumes-saved r.words r.input r.left r.before r.after r.old r.new r.status r.machine r.notes run.outcome run.no_byte run.no_read;
-  alike = alike;
-}

@@ -1,9 +1,7 @@
 -- What the program uses of files and lines is what its session uses, and the files that its words name.
-use Rattle.std.proofs.Common.{◌≡◌, ◌⊎◌, inl, inr, ℕ, Bool, IsTrue, IsSome, is_some, List, [], ◌++◌, length, drop, Option, Some, None, ap, sym, ◌∙◌, subst}
+use Rattle.std.proofs.Common.{◌≡◌, ◌⊎◌, inl, inr, ℕ, Bool, IsTrue, List, [], ◌++◌, length, Option, Some, ap, sym, ◌∙◌, subst}
 use Rattle.std.proofs.Math.Seq.{drop-append_seam}
-use Rattle.observations.specs.Observations.{Observation}
 use Rattle.file_traits.specs.State.{FileState}
-use Rattle.host_lines.specs.Traffic.{Answer as LineAnswer}
 use Rattle.host_lines.specs.Told.{ahead_of}
 use Rattle.host_lines.specs.State.{LineState}
 use Rattle.file_commands.specs.Notes.{Note, notes_said}
@@ -11,31 +9,19 @@ use Rattle.command_session.specs.Live.{CommandState, beyond}
 use Rattle.command_words.specs.declared.options.Options.{Options}
 use Rattle.command_words.specs.Words.{options_of}
 use Rattle.scp_script.specs.declared.perform_session.Opening.{Opening}
-use Rattle.scp_script.specs.Session.{State, Session, ComesTo}
+use Rattle.scp_script.specs.Session.{Session, ComesTo}
 use Rattle.scp_script.specs.Loop.{MayFollow}
 use Rattle.scp_script.specs.Perform.{beginning}
 use Rattle.scp_script.specs.Used.{CourseTold}
-use Rattle.nova_top.specs.Outside.{start_of, opening}
+use Rattle.program_start.specs.Start.{start_of}
+use Rattle.nova_top.specs.Outside.{opening}
 use Rattle.nova_top.specs.Program.{script_text}
 use Rattle.nova_top.specs.Ends.{HasKeysFile, HasScript}
-use Rattle.nova_top.specs.Used.{ProgramTold, NamesTold, ToldIsEnough}
-use Rattle.scp_script.proofs.UsedLemmas.{all-told}
+use Rattle.nova_top.specs.Used.{ProgramTold}
+use Rattle.program_start.specs.WordFiles.{NamesTold}
 use Rattle.nova_top.proofs.ProgramLemmas.{Begun, follows, same-start}
 
 -- ---- the files of the words
-
-pub keys-told : (tells : Bool) (options : Options) (place : ℕ) → options.keys ≡ Some place → NamesTold tells options → IsTrue tells
-unfolding NamesTold
-keys-told tells options place is told = told (inl (ap is_some is))
-
-pub script-told : (tells : Bool) (options : Options) (place : ℕ) → options.script ≡ Some place → NamesTold tells options → IsTrue tells
-unfolding NamesTold
-script-told tells options place is told = told (inr (ap is_some is))
-
--- files that tell all tell these
-pub names-told : (tells : Bool) (options : Options) → IsTrue tells → NamesTold tells options
-unfolding NamesTold
-names-told tells options told = λ _. told
 
 pub words-named : (tells : Bool) (words : List (List ℕ)) (options : Options) → options_of words ≡ Some options → (HasKeysFile words ⊎ HasScript words → IsTrue tells) → NamesTold tells options
 unfolding NamesTold
@@ -64,11 +50,3 @@ course-told files lines Told words options s o was mid l input chosen begun told
       starts = ap (λ (c : Option Options). start_of c words was.files (kept ++ notes)) chosen ∙ begun.starts told notes first;
       comes = subst (λ (x : Session). ComesTo count x made at) (same notes ∙ ap start (sym (drop-append_seam kept notes))) comes;
     })
-
--- ---- files and lines that tell theirs
-
-pub told-is-enough : ToldIsEnough
-told-is-enough files lines words input named outside told telling = record {
-  names = λ _. told;
-  texts = λ whole notes front at reaches. all-told files lines at told telling;
-}

@@ -1,12 +1,9 @@
 -- The session that the program begins is what every session is, and what is left is in range.
-use Rattle.std.proofs.Common.{◌≡◌, inl, inr, ℕ, zero, suc, ◌+◌, ◌^◌, ◌<◌, ◌≤◌, ◌&&◌, ◌==◌, nat_lt, nat_le, Bool, true, false, List, [], ◌∷◌, ◌++◌, length, take, drop, map, Option, Some, None, IfSome, option_map, unwrap_or, Result, Ok, Err, if◌then◌else◌, refl, sym, subst, ◌∙◌, arith, length-take}
+use Rattle.std.proofs.Common.{◌≡◌, ℕ, zero, suc, ◌+◌, ◌^◌, ◌<◌, ◌≤◌, ◌&&◌, ◌==◌, nat_lt, nat_le, Bool, true, false, List, [], ◌∷◌, ◌++◌, length, take, drop, map, Option, Some, None, IfSome, option_map, unwrap_or, Result, Ok, Err, if◌then◌else◌, refl, sym, subst, ◌∙◌, arith, length-take}
 use Rattle.std.specs.List.{AllByRecursion, list_all, position}
 use Rattle.std.specs.Option.{option_and_then}
 use Rattle.std.proofs.lemmas.Bool.{and_parts, ltb-true}
 use Rattle.std.proofs.lemmas.List.{length-map}
-use Rattle.observations.specs.Observations.{StandsAt, Trace}
-use Rattle.observations.proofs.CutLemmas.{cut-state}
-use Rattle.observations.proofs.MadeLemmas.{stands-mapped}
 use Rattle.nova_word.specs.Numbers.{number_read}
 use Rattle.nova_word.specs.Quoted.{quoted_read}
 use Rattle.nova_memory.specs.Memory.{MemoryState, IsMemory, IsSize, put}
@@ -28,21 +25,20 @@ use Rattle.nova_machine.specs.Valid.{AreBytes, HasByteName, ValidMachine, ValidL
 use Rattle.machine_laws.proofs.StayingValid.{runs-stay-valid, kinds-begin}
 use Rattle.machine_laws.proofs.ValidBytes.{AreFiles}
 use Rattle.nova_machine.proofs.Each.{every-append, every-take, every-drop}
-use Rattle.command_laws.specs.Valid.{IsProgramMachine, ValidLive}
+use Rattle.command_laws.specs.Valid.{IsProgramMachine}
 use Rattle.command_laws.proofs.ValidWatch.{read-bytes}
 use Rattle.command_laws.proofs.ValidMachines.{GivesWhole, whole-bytes, memory-valid}
 use Rattle.unit_list.proofs.Resets.{reset-kinds}
 use Rattle.session_texts.specs.Scripts.{Script}
-use Rattle.scp_script.specs.Session.{State, trace}
 use Rattle.script_laws.specs.Valid.{ValidScript}
-use Rattle.script_laws.proofs.ValidSessions.{sessions-stay-valid}
 use Rattle.command_words.specs.declared.options.Options.{Options}
 use Rattle.command_words.specs.Standard.{standard_kinds, standard_units}
 use Rattle.command_words.specs.Words.{keys_name, script_name, script_words, options_of}
-use Rattle.nova_top.specs.Workload.{next_number, words_behind, with_words, loop_words, count_words, filled, with_workload, workload_text, first_text}
-use Rattle.nova_top.specs.Outside as outside
-use Rattle.nova_top.specs.Outside.{Outside, Left, left_by, calls_on, word_file, Denial, unopened, or_bad_keys, taken_keys, script_from, taken_script, Start, Refused, Begins, denied, start_by, start_of, first_scripts, first_live, session_with, opening, trace_from, whole_trace, trace_of, outcome}
-use Rattle.nova_top.specs.ValidLaws.{AreHandedBytes, ValidLeft, IsGoodOpening, ProgramStaysValid}
+use Rattle.program_start.specs.Workload.{next_number, words_behind, with_words, loop_words, count_words, filled, with_workload, workload_text, first_text}
+use Rattle.program_start.specs.Start as starting
+use Rattle.nova_top.specs.Outside.{first_scripts, first_live, session_with}
+use Rattle.program_start.specs.Start.{calls_on, word_file, Denial, or_bad_keys, taken_keys, script_from, taken_script, Start, Refused, Begins, start_by, start_of}
+use Rattle.nova_top.specs.Valid.{AreHandedBytes, IsGoodOpening}
 use Rattle.command_words.proofs.WordsLemmas.{IsLimit, words-fit}
 
 -- ---- keys
@@ -129,7 +125,7 @@ abbrev HasBytes : Option (List ℕ) → Type 0
 HasBytes script = IfSome script AreBytes
 
 -- a limit and a budget in range, few enough keys, and keys and a script of bytes
-abbrev IsGoodStart : Start → Type 0
+abbrev pub IsGoodStart : Start → Type 0
 IsGoodStart (Refused status text) = Unit {0}
 IsGoodStart (Begins options keys script) = (options.budget ≤ 2 ^ 32) × IsLimit options.limit × GoodKeys keys × HasBytes script
 
@@ -145,7 +141,7 @@ or-keys : (r : Result (List Key) ℕ) → GivesGood r → AreKeys (or_bad_keys r
 or-keys (Ok keys) gives = gives
 or-keys (Err place) gives = tt
 
-keys-said : (name : List ℕ) (said : WholeSaid) → AreKeys (outside.keys_from name said)
+keys-said : (name : List ℕ) (said : WholeSaid) → AreKeys (starting.keys_from name said)
 keys-said name (WholeIs bytes) = or-keys (keys_read bytes) (read-keys bytes)
 keys-said name whole.NotThere = tt
 keys-said name whole.TooLong = tt
@@ -180,7 +176,7 @@ by-good options (Err denial, used) script budget limit are is = tt
 by-good options (Ok keys, used) (Err denial, more) budget limit are is = tt
 by-good options (Ok keys, used) (Ok script, more) budget limit are is = (budget, limit, are, first-bytes options.workload script is)
 
-good-start : (words : List (List ℕ)) (files : List NamedBytes) (notes : List Note) → AreFiles files → IsGoodStart (start_of (options_of words) words files notes).0
+pub good-start : (words : List (List ℕ)) (files : List NamedBytes) (notes : List Note) → AreFiles files → IsGoodStart (start_of (options_of words) words files notes).0
 good-start words files notes all = by-options (options_of words) (words-fit words)
   where
     by-options : (o : Option Options) → IfSome o (λ (x : Options). (x.budget ≤ 2 ^ 32) × IsLimit x.limit) → IsGoodStart (start_of o words files notes).0
@@ -292,7 +288,7 @@ first-script (Some text) words bytes all =
       each = (record { text = bytes; place = omega arith; few = omega (arith, many); arguments = every-take AreBytes 10 words all }, tt);
     }
 
-opening-good : (words : List (List ℕ)) (options : Options) (keys : List Key) (script : Option (List ℕ)) (files : List NamedBytes) (ahead : Ahead) (input : List ℕ) (notes : List Note)
+pub opening-good : (words : List (List ℕ)) (options : Options) (keys : List Key) (script : Option (List ℕ)) (files : List NamedBytes) (ahead : Ahead) (input : List ℕ) (notes : List Note)
     → AreHandedBytes words input files ahead → IsGoodStart (Begins options keys script) → IsGoodOpening words options keys script files ahead input notes
 unfolding session_with first_machine
 opening-good words options keys script files ahead input notes handed good =
@@ -329,46 +325,11 @@ opening-good words options keys script files ahead input notes handed good =
       disk = fresh.disk files keys ahead;
     }
 
--- ---- what is left
+-- ---- the session that the program begins
 
-left-valid : (s : State) → ValidLive s.live → ValidLeft (left_by s)
-left-valid s is = record { machine = is.valid.machine; lines = is.valid.lines; ahead = is.valid.ahead; files = is.valid.files }
-
-record IsGoodTrace (t : Trace Left) : Type 0 where
-  made : (at : Left) → StandsAt at t.made → ValidLeft at
-  ended : ValidLeft t.ended.state
-
-from-good : (words : List (List ℕ)) (start : Start) (files : List NamedBytes) (ahead : Ahead) (input : List ℕ) (notes : List Note) → AreHandedBytes words input files ahead → IsGoodStart start → IsGoodTrace (trace_from words start files ahead input notes)
-from-good words (Refused status text) files ahead input notes handed good = record {
-  made = λ at h. elim h [ inl same ↦ subst ValidLeft (sym same) (record { machine = tt; lines = tt; ahead = handed.comes; files = handed.each_file }) | inr none ↦ absurd none ];
-  ended = record { machine = tt; lines = tt; ahead = handed.comes; files = handed.each_file };
-}
-from-good words (Begins options keys script) files ahead input notes handed good =
-    let s = opening words options keys script files ahead input notes in
-    let valid = (opening-good words options keys script files ahead input notes handed good).valid in
-    record {
-      made = λ at h.
-          let from = stands-mapped left_by at (trace s).made h in
-          subst ValidLeft (sym from.2) (left-valid from.0 (sessions-stay-valid.made s from.0 valid from.1));
-      ended = left-valid (trace s).ended.state (sessions-stay-valid.ended s valid);
-    }
-
-whole-good : (words : List (List ℕ)) (input : List ℕ) (files : List NamedBytes) (ahead : Ahead) (notes : List Note) → AreHandedBytes words input files ahead → IsGoodTrace (whole_trace words input files ahead notes)
-unfolding whole_trace
-whole-good words input files ahead notes handed =
-    let start = start_of (options_of words) words files notes in
-    from-good words start.0 files ahead input (drop start.1 notes) handed (good-start words files notes handed.each_file)
-
-outcome-good : (o : Outside) → AreHandedBytes o.words o.input o.files o.ahead → ValidLeft (outcome o).state
-unfolding outcome
-outcome-good o handed =
-    let t = trace_of o in
-    let good = whole-good o.words o.input o.files o.ahead o.notes handed in
-    cut-state ValidLeft t.made t.ended o.takes o.gives good.made good.ended
-
-pub program-stays-valid : ProgramStaysValid
-program-stays-valid = record {
-  begin = λ words input files ahead notes more options keys script handed is.
-      opening-good words options keys script files ahead input more handed (subst IsGoodStart is (good-start words files notes handed.each_file));
-  left = outcome-good;
-}
+pub program-begins-valid : (words : List (List ℕ)) (input : List ℕ) (files : List NamedBytes) (ahead : Ahead) (notes more : List Note)
+    (options : Options) (keys : List Key) (script : Option (List ℕ)) → AreHandedBytes words input files ahead
+    → (start_of (options_of words) words files notes).0 ≡ Begins options keys script
+    → IsGoodOpening words options keys script files ahead input more
+program-begins-valid words input files ahead notes more options keys script handed is =
+    opening-good words options keys script files ahead input more handed (subst IsGoodStart is (good-start words files notes handed.each_file))

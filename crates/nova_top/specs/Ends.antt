@@ -1,9 +1,7 @@
 -- What the program comes to, for a console that took so many bytes, an input that let so many reads through, and the calls
 -- on files that failed.
 use Rattle.std.specs.Prelude.{◌≡◌, ◌≢◌, ◌⊎◌, ℕ, ◌+◌, ◌≤◌, Bool, IsTrue, List, [], ◌++◌, length, drop, map, Option, Some, None, IsSome, option_map}
-use Rattle.std.specs.List.{AllByRecursion}
 use Rattle.fault_counts.specs.Faults.{raised, Rose}
-use Rattle.file_traits.specs.declared.files.FileCall.TheVariants.{Closing}
 use Rattle.observations.specs.Observations.{Trace, text_of, reads_of, sent_of}
 use Rattle.observations.specs.Cut.{ends}
 use Rattle.file_traits.specs.State.{Opened, FileState}
@@ -26,7 +24,9 @@ use Rattle.command_session.specs.LinesLeft.{HasPort, AreListened}
 use Rattle.scp_script.specs.Perform.{RunsShort}
 use Rattle.command_words.specs.declared.options.Options.{Options}
 use Rattle.command_words.specs.Words.{options_of}
-use Rattle.nova_top.specs.Outside.{Outside, Left, left_by, Begins, start_of, opening, outcome, sent_by, whole_trace}
+use Rattle.nova_top.specs.Outside.{trace_of, Outside, Left, left_by, opening, outcome, sent_by, whole_trace}
+use Rattle.program_start.specs.Start.{Begins, start_of}
+use Rattle.program_start.specs.WordFiles.{AreWordClosings}
 
 -- a machine without the numbers of open files, where there is one
 abbrev pub machine_left : Option MachineState → Option MachineState
@@ -73,11 +73,6 @@ pub record IsOutcome (words : List (List ℕ)) (input left before after : List �
   pub rest : left ≡ drop made input
   pub is : outcome (handed_in words input old notes (length taken) gives) ≡ ends status taken made (left_at machine new)
   pub heard : new.lines.sent ≡ heard_with old.lines.sent (sent_by (handed_in words input old notes (length taken) gives))
-
--- notes of closings of the files that the words name, which are before the first command
-abbrev pub AreWordClosings : List Note → Type 0
-AreWordClosings notes =
-    AllByRecursion (λ (n : Note). (n.command ≡ 0) × (n.note.time ≡ 0) × (n.note.failure.call ≡ Closing)) notes
 
 -- Memory ran out before the first line: there is no machine, nothing was printed or read, no file has changed, nothing was
 -- asked on lines, and no call has failed but closings.
@@ -192,3 +187,11 @@ pub record IsComplete (words : List (List ℕ)) (input left before after : List 
   pub printed : after ≡ before ++ text_of (whole_with words input old).made
   pub rest : left ≡ drop (reads_of (whole_with words input old).made) input
   pub heard : new.lines.sent ≡ heard_with old.lines.sent (sent_of (whole_with words input old).made)
+
+-- where no byte was refused and no read failed, the outcome is that of the whole trace
+pub record IsWholeOutcome (o : Outside) : Type 0 where
+  pub status : (outcome o).status ≡ (trace_of o).ended.status
+  pub console : (outcome o).console ≡ text_of (trace_of o).made
+  pub reads : (outcome o).reads ≡ reads_of (trace_of o).made
+  pub state : (outcome o).state ≡ (trace_of o).ended.state
+  pub sent : sent_by o ≡ sent_of (trace_of o).made

@@ -1,19 +1,5 @@
--- The parts of the program: how it starts, a text that refuses that, and a session.
-use Rattle.std.specs.Prelude.{◌≡◌, ◌⊎◌, ℕ, ◌<◌, List, [], ◌∷◌, ◌++◌, length, get_or, map, Option, Some, None, IfSome, IsSome, option_map, is_none, false, Result, Ok, Err}
-use Rattle.std.specs.Global.{Vec}
-use Rattle.fault_counts.specs.Faults.{raised}
-use Rattle.observations.specs.declared.exit_status.ExitStatus.TheVariants as exits
-use Rattle.observations.specs.Status.{number_of}
-use Rattle.file_traits.specs.declared.files.FileCall.{FileCall}
-use Rattle.file_traits.specs.Lists.{NamedBytes}
-use Rattle.file_traits.specs.Streams.{AddsPart}
-use Rattle.file_commands.specs.declared.note.FaultNote.{FaultNote}
-use Rattle.file_commands.specs.declared.note.Subject.{Subject}
-use Rattle.file_commands.specs.Notes.{Note, Follow, notes_said}
-use Rattle.whole_files.specs.declared.whole.FailedCall.{FailedCall}
-use Rattle.whole_files.specs.declared.whole.WholeFault.{WholeFault}
-use Rattle.whole_files.specs.Whole.{WholeSaid, whole_act}
-use Rattle.whole_files.specs.Claims.{said_of_bytes}
+-- A session of the program: how it is opened, and how it ends.
+use Rattle.std.specs.Prelude.{◌≡◌, ℕ, List, Option, Some, option_map, is_none, false}
 use Rattle.expect_actions.specs.Watch.{WatchState}
 use Rattle.nova_machine.specs.Machine.{MachineState}
 use Rattle.command_session.specs.declared.do_file.DoFile.{DoFile}
@@ -21,85 +7,9 @@ use Rattle.scp_script.specs.declared.perform_session.Opening.{Opening}
 use Rattle.scp_script.specs.declared.progress.Finish.{Finish}
 use Rattle.scp_script.specs.Loop.{status_of}
 use Rattle.session_texts.specs.Scripts.{first_script}
-use Rattle.nova_top.specs.Ends.{AreWordClosings}
 use Rattle.command_words.specs.declared.options.Options.{Options}
-use Rattle.nova_top.specs.declared.word_files.Refusal.{Refusal}
-use Rattle.nova_top.specs.declared.word_files.Refusal.TheVariants.{Unopened, BadKeys, OutOfMemory}
-use Rattle.nova_top.specs.declared.word_files.Beginning.{Beginning}
 use Rattle.command_words.specs.Words.{script_words}
-use Rattle.nova_top.specs.Outside.{Denial, unopened, bad_keys_text, calls_on, Start, Begins, denied, start_of, first_scripts}
-
--- With these notes, before any of later commands, the program starts so, and uses them.
-abbrev pub StartsWith : List (List ℕ) → Options → List NamedBytes → List Note → Start → Type 0
-StartsWith words options files kept start = (more : List Note) → Follow 0 more → start_of (Some options) words files (kept ++ more) ≡ (start, length kept)
-
--- ---- the files of the words
-
--- the note of a failing call on the file of that subject
-abbrev pub word_note : Subject → FailedCall → FaultNote
-word_note whose f = record { command = 0; time = 0; subject = whose; file = f.file; call = f.call; done = 0 }
-
-abbrev pub noted_call : Subject → Option FailedCall → List FaultNote
-noted_call whose None = []
-noted_call whose (Some f) = word_note whose f ∷ []
-
--- what the notes of these calls say
-abbrev pub word_notes : Subject → List FileCall → List Note
-word_notes whose calls = map (λ (call : FileCall). record { command = 0; note = record { time = 0; subject = whose; failure = record { call = call; done = 0 } } }) calls
-
--- notes were kept of closings alone
-pub record AddsClosings (kept kept' : List FaultNote) : Type 0 where
-  pub more : List FaultNote
-  pub added : kept' ≡ kept ++ more
-  pub are : AreWordClosings (notes_said more)
-
--- the file of that name was read, with the notes that were kept in that
-pub record ReadsFile (whose : Subject) (name : List ℕ) (files : List NamedBytes) (kept kept' : List FaultNote) (bytes : Result (Vec ℕ) WholeFault) : Type 0 where
-  pub calls : List FileCall
-  pub added : notes_said kept' ≡ notes_said kept ++ word_notes whose calls
-  pub said : IfSome (said_of_bytes bytes) (λ said. whole_act calls name files ≡ (said, length calls))
-
--- by what a refusal is answered, but where memory ran out
-abbrev pub denial_of : List (List ℕ) → Refusal → Option Denial
-denial_of words (Unopened place) = Some (unopened (get_or words place []))
-denial_of words (BadKeys place) = Some (record { status = number_of exits.BadKeys; text = bad_keys_text place })
-denial_of words OutOfMemory = None
-
--- what comes of what was read of a file
-abbrev pub ComesOf : {T : Type 0} → List (List ℕ) → (WholeSaid → Result T Denial) → Option WholeSaid → Result T Refusal → Type 0
-ComesOf words from (Some said) (Ok value) = from said ≡ Ok value
-ComesOf words from (Some said) (Err refusal) = IfSome (denial_of words refusal) (λ denial. from said ≡ Err denial)
-ComesOf words from None (Ok value) = ⊥
-ComesOf words from None (Err refusal) = denial_of words refusal ≡ None
-
--- the same was taken, and used so many notes
-abbrev pub IsTaken : {T : Type 0} → List (List ℕ) → Result T Refusal → Result T Denial × ℕ → ℕ → Type 0
-IsTaken words (Ok value) taken used = taken ≡ (Ok value, used)
-IsTaken words (Err refusal) taken used = IfSome (denial_of words refusal) (λ denial. taken ≡ (Err denial, used))
-
--- The keys or the script were taken with the notes that were kept in that, whatever comes behind that is no failing call on
--- that file.
-pub record Takes {T : Type 0} (whose : Subject) (words : List (List ℕ)) (act : List Note → Result T Denial × ℕ) (kept kept' : List FaultNote) (result : Result T Refusal) : Type 0 where
-  pub calls : List FileCall
-  pub added : notes_said kept' ≡ notes_said kept ++ word_notes whose calls
-  pub taken : (more : List Note) → calls_on whose more ≡ [] → IsTaken words result (act (word_notes whose calls ++ more)) (length calls)
-
--- no file was refused: all is there, or memory ran out
-abbrev pub IsWant : Refusal → Type 0
-IsWant OutOfMemory = Unit {0}
-IsWant refusal = ⊥
-
-abbrev pub IsUnrefused : {T : Type 0} → Result T Refusal → Type 0
-IsUnrefused (Ok value) = Unit {0}
-IsUnrefused (Err refusal) = IsWant refusal
-
--- a file that was refused is that of a word, and named by the words
-abbrev pub RefusalCause : List (List ℕ) → Options → Refusal → Type 0
-RefusalCause words options (Unopened place) = (place < length words) × (IsSome options.keys ⊎ IsSome options.script)
-RefusalCause words options (BadKeys place) = IsSome options.keys
-RefusalCause words options OutOfMemory = Unit {0}
-
--- ---- the start
+use Rattle.nova_top.specs.Outside.{first_scripts}
 
 -- a script's text, with which a session begins
 abbrev pub as_file : List ℕ → DoFile
@@ -108,11 +18,6 @@ as_file text = record { text = text; echo = false; strict = false }
 abbrev pub script_text : Opening → Option (List ℕ)
 script_text opening = option_map (λ (file : DoFile). file.text) opening.script
 
--- how the program begins, or by what it refuses that
-abbrev pub BeginsAs : List (List ℕ) → Options → List NamedBytes → List Note → Result Beginning Refusal → Type 0
-BeginsAs words options files kept (Ok b) = StartsWith words options files kept (Begins options b.keys (script_text b.opening))
-BeginsAs words options files kept (Err refusal) = IfSome (denial_of words refusal) (λ denial. StartsWith words options files kept (denied denial))
-
 -- a session is opened as the words say
 pub record OpensAs (words : List (List ℕ)) (options : Options) (opening : Opening) : Type 0 where
   pub reads : opening.reads ≡ is_none options.workload
@@ -120,30 +25,7 @@ pub record OpensAs (words : List (List ℕ)) (options : Options) (opening : Open
   pub budget : opening.budget ≡ options.budget
   pub scripts : first_script opening.script opening.arguments.items ≡ first_scripts (script_text opening) (script_words words options)
 
--- ---- what comes of it
-
--- the text was printed, with that status, or the console refused a byte of it
-abbrev pub IsRefused : ℕ → List ℕ → ℕ → List ℕ → List ℕ → Type 0
-IsRefused status_there text status before after = ((status ≡ status_there) × (after ≡ before ++ text)) ⊎ ((status ≡ number_of exits.Console) × AddsPart before text after)
-
-abbrev pub RefusedCause : ℕ → ℕ → ℕ → ℕ → Type 0
-RefusedCause status_there status sink sink_now = ((status ≡ status_there) × (sink_now ≡ sink)) ⊎ ((status ≡ number_of exits.Console) × (sink_now ≡ raised sink))
-
 -- a session that ended: by that finish, with that machine and those watch tables
 abbrev pub SessionEnds : ℕ → Option MachineState → (Finish → WatchState → MachineState → Type 0) → (Finish → Type 0) → Type 0
 SessionEnds status machine Told Cause =
     (finish : Finish) × (watch : WatchState) × (now : MachineState) × (status ≡ status_of finish) × (machine ≡ Some now) × Told finish watch now × Cause finish
-
--- the status behind a text that was printed, or not
-abbrev pub status_printed : {T E : Type 0} → Result T E → ℕ → ℕ
-status_printed (Ok _) status = status
-status_printed (Err _) status = number_of exits.Console
-
--- a file was refused by its text; nothing is printed where memory ran out
-abbrev pub IsDenied : Option Denial → ℕ → List ℕ → List ℕ → Type 0
-IsDenied (Some denial) status before after = IsRefused denial.status denial.text status before after
-IsDenied None status before after = (status ≡ number_of exits.OutOfMemory) × (after ≡ before)
-
-abbrev pub DeniedCause : Option Denial → ℕ → ℕ → ℕ → Type 0
-DeniedCause (Some denial) status sink sink_now = RefusedCause denial.status status sink sink_now
-DeniedCause None status sink sink_now = (status ≡ number_of exits.OutOfMemory) × (sink_now ≡ sink)

@@ -1,12 +1,11 @@
 -- What the program uses of files and lines: contents are claimed where these tell theirs.
-use Rattle.std.specs.Prelude.{◌⊎◌, ℕ, Bool, IsTrue, IsSome, List}
+use Rattle.std.specs.Prelude.{◌⊎◌, ℕ, Bool, IsTrue, List}
 use Rattle.observations.specs.Observations.{Observation}
 use Rattle.file_traits.specs.Lists.{NamedBytes}
 use Rattle.host_lines.specs.Traffic.{Answer as LineAnswer}
 use Rattle.host_lines.specs.State.{LineState}
 use Rattle.file_commands.specs.Notes.{Note}
 use Rattle.command_session.specs.Live.{beyond}
-use Rattle.command_words.specs.declared.options.Options.{Options}
 use Rattle.scp_script.specs.Session.{State, Session}
 use Rattle.scp_script.specs.Used.{NextTold}
 use Rattle.nova_top.specs.Ends.{HasKeysFile, HasScript}
@@ -19,12 +18,3 @@ pub record ProgramTold (files lines : Bool) (words : List (List ℕ)) (input : L
   pub names : HasKeysFile words ⊎ HasScript words → IsTrue files
   pub texts : (whole : List LineAnswer) (notes : List Note) (front : List (Observation State)) (at : Session) → Reaches words input (beyond named outside whole) notes front at
       → NextTold files lines at
-
--- the first of these, of the words that were read
-unfoldable pub NamesTold : Bool → Options → Type 0
-NamesTold files options = IsSome options.keys ⊎ IsSome options.script → IsTrue files
-
--- files and lines that tell theirs tell all that is used
-abbrev pub ToldIsEnough : Type 0
-ToldIsEnough =
-    (files lines : Bool) (words : List (List ℕ)) (input : List ℕ) (named : List NamedBytes) (outside : LineState) → IsTrue files → IsTrue lines → ProgramTold files lines words input named outside

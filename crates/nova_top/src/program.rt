@@ -1,9 +1,7 @@
-ghost use Rattle.std.specs.Prelude.{◌≡◌, ◌≢◌, ◌≤◌, ◌^◌, ◌∷◌, List, [], map, Option, None};
-ghost use Rattle.std.specs.Prelude.{true, false, IsTrue, IsSome, is_some, string_bytes};
+ghost use Rattle.std.specs.Prelude.{◌≡◌, ◌≢◌, ◌≤◌, ◌^◌, ◌∷◌, List, [], map, Option, None, true, false, IsTrue, IsSome, is_some, option_map, is_none};
 ghost use Rattle.std.specs.List.{AllByRecursion};
-ghost use Rattle.fault_counts.specs.Faults.{Rose, CountsFault};
+ghost use Rattle.fault_counts.specs.Faults.{Rose};
 ghost use Rattle.observations.specs.Status.{number_of};
-ghost use Rattle.file_traits.specs.Streams.{Puts};
 ghost use Rattle.file_traits.specs.State.{Opened};
 ghost use Rattle.unit_files.specs.Attachments.{Held, no_files};
 ghost use Rattle.unit_files.specs.Open.{AllOpen, Around};
@@ -22,33 +20,27 @@ ghost use Rattle.scp_script.specs.Perform.{beginning, Performed};
 ghost use Rattle.scp_script.specs.Used.{CourseTold};
 ghost use Rattle.command_words.specs.Standard.{IsStandard};
 ghost use Rattle.command_words.specs.Words.{texts_of};
-ghost use Rattle.nova_top.specs.Outside.{usage_text, unopened_text, bad_keys_text};
-ghost use Rattle.nova_top.specs.Ends.{IsOutcome, IsCutShort, StatusCause, MachineThere, IsComplete, FilesAtEnd, KeptUnwritten};
-ghost use Rattle.nova_top.specs.Ends.{LinesAtEnd, NoneFailed, HasWorkload, InputTells};
-ghost use Rattle.nova_top.specs.Unread.{IsUnopened, AreMeasured, HasNoKeys};
-ghost use Rattle.nova_top.specs.Program.{IsRefused, RefusedCause, RefusalCause, SessionEnds};
-ghost use Rattle.nova_top.specs.Program.{denial_of, IsDenied, DeniedCause, status_printed};
-ghost use Rattle.nova_top.specs.Workload.{with_workload};
+ghost use Rattle.program_start.specs.Start.{usage_text};
+ghost use Rattle.nova_top.specs.Ends.{IsOutcome, IsCutShort, StatusCause, MachineThere, IsComplete, FilesAtEnd, KeptUnwritten, LinesAtEnd, NoneFailed, HasWorkload, InputTells};
+ghost use Rattle.program_start.specs.Unread.{IsUnopened, AreMeasured, HasNoKeys};
+ghost use Rattle.program_start.specs.WordFiles.{IsRefused, RefusedCause, RefusalCause, denial_of, IsDenied, DeniedCause};
+ghost use Rattle.nova_top.specs.Program.{SessionEnds, as_file};
+ghost use Rattle.program_start.specs.Workload.{with_workload};
 ghost use Rattle.nova_top.specs.Resumption.{ResumesSaved};
 ghost use Rattle.nova_top.specs.Used.{ProgramTold};
 
-use crate::word_files::{Beginning, Refusal, begin};
-use crate::workload::set_up;
+use command_session::{DoFile, ScriptText};
 use command_words::{Options, options_of};
 use expect_actions::Keys;
-use file_traits::{Failed, Files, Sink, Source, put_all, put_pieces};
+use file_traits::{Files, Sink, Source};
 use host_lines::Lines;
-use itoa::Buffer;
 use nova_machine::Machine;
 use observations::ExitStatus;
+use program_start::{Beginning, Refusal, begin, print_refusal, print_usage, set_up};
 use scp_commands::{FaultNote, Session};
 use scp_script::{Opening, perform};
 use std::alloc::Global;
 use unit_trait::Unit;
-
-/// The line that answers words outside their grammar.
-const USAGE: &[u8] =
-    b"usage: nova [-q] [-k keys] [-l instructions] [-m commands] [-g number] [script [arguments]]\n";
 
 /// How the program ended.
 #[derive(Drop)]
@@ -146,15 +138,24 @@ pub fn simulate<U: Unit, C: Source, S: Sink, F: Files, L: Lines>(
         };
     };
     match begin(alloc, words, options, files, &mut session.notes) {
-        Ok(Beginning { keys, opening }) => run_session(
-            alloc,
-            ready(session, keys, options.workload),
-            &opening,
-            input,
-            output,
-            files,
-            lines,
-        ),
+        Ok(
+            Beginning {
+                keys,
+                script,
+                arguments,
+            },
+        ) => {
+            let opening = open_with(options, script, arguments);
+            run_session(
+                alloc,
+                ready(session, keys, options.workload),
+                &opening,
+                input,
+                output,
+                files,
+                lines,
+            )
+        }
         Err(refusal) => refuse_files(words, refusal, notes_of(session), output),
     }
 }
@@ -167,6 +168,31 @@ fn ready<U: Unit>(session: Session<U>, keys: Keys, workload: Option<u16>) -> Ses
     session.keys = keys;
     set_up(&mut session.machine, workload);
     session
+}
+
+/// How a session is opened with a script of that text, and these words for its name and its arguments.
+fn open_with(options: Options, script: Option<ScriptText>, arguments: Vec<String>) -> Opening
+    ensures script { result.script ≡ option_map as_file script }
+    ensures arguments { result.arguments ≡ arguments }
+    ensures reads { result.reads ≡ is_none options.workload }
+    ensures prompt { result.prompt ≡ options.prompt }
+    ensures budget { result.budget ≡ options.budget }
+{
+    let script = match script {
+        Some(text) => Some(DoFile {
+            text,
+            echo: false,
+            strict: false,
+        }),
+        None => None,
+    };
+    Opening {
+        script,
+        arguments,
+        reads: options.workload.is_none(),
+        prompt: options.prompt,
+        budget: options.budget,
+    }
 }
 
 /// The notes of a session that is let go.
@@ -185,8 +211,7 @@ fn usage<U: Unit, S: Sink>(alloc: Global, output: &mut S) -> Ending<U>
     ensures machine { result.machine ≡ None }
     ensures notes { result.faults.items ≡ [] }
 {
-    let printed = put_all(output, USAGE);
-    refused(printed, ExitStatus::Usage, Vec::new(alloc))
+    unbegun(print_usage(output), Vec::new(alloc))
 }
 
 /// Answers a keys file or a script that was refused.
@@ -204,59 +229,15 @@ fn refuse_files<U: Unit, S: Sink>(
     ensures machine { result.machine ≡ None }
     ensures notes { result.faults.items ≡ notes.items }
 {
-    match refusal {
-        Refusal::Unopened(place) => {
-            let printed = put_unopened(&words[place], output);
-            refused(printed, ExitStatus::Unopened, notes)
-        }
-        Refusal::BadKeys(place) => {
-            let printed = put_bad_keys(place, output);
-            refused(printed, ExitStatus::BadKeys, notes)
-        }
-        Refusal::OutOfMemory => Ending {
-            status: ExitStatus::OutOfMemory.number(),
-            machine: None,
-            faults: notes,
-        },
-    }
+    unbegun(print_refusal(words, refusal, output), notes)
 }
 
-/// Prints the name of a file that was not read.
-fn put_unopened<S: Sink>(name: &String, output: &mut S) -> Result<(), Failed>
-    ensures told { IsTrue S.tells
-        → Puts (S.written output.old) (unopened_text (string_bytes name.now)) result (S.written output.new) }
-    ensures counts { CountsFault (S.fault_count output.old) (S.fault_count output.new) result }
-{
-    put_pieces(output, &[b"Cannot open ", name.as_bytes(), b"\n"])
-}
-
-/// Prints the place of the first faulty line of a keys file, in decimal.
-fn put_bad_keys<S: Sink>(place: usize, output: &mut S) -> Result<(), Failed>
-    ensures told { IsTrue S.tells
-        → Puts (S.written output.old) (bad_keys_text place) result (S.written output.new) }
-    ensures counts { CountsFault (S.fault_count output.old) (S.fault_count output.new) result }
-{
-    let mut buffer = Buffer::new();
-    put_pieces(
-        output,
-        &[b"Bad keys file at ", buffer.format(place).as_bytes(), b"\n"],
-    )
-}
-
-/// The end with that status, if its text was printed.
-fn refused<U: Unit>(
-    printed: Result<(), Failed>,
-    status: ExitStatus,
-    notes: Vec<FaultNote>,
-) -> Ending<U>
-    ensures status { result.status ≡ status_printed printed (number_of status) }
+/// The end of a program that has no session, with that status.
+fn unbegun<U: Unit>(status: ExitStatus, notes: Vec<FaultNote>) -> Ending<U>
+    ensures status { result.status ≡ number_of status }
     ensures machine { result.machine ≡ None }
     ensures notes { result.faults.items ≡ notes.items }
 {
-    let status = match printed {
-        Ok(()) => status,
-        Err(Failed) => ExitStatus::Console,
-    };
     Ending {
         status: status.number(),
         machine: None,

@@ -1,4 +1,4 @@
-use Rattle.std.proofs.Common.{◌≡◌, ◌⊎◌, Some, inl, inr, true, IsTrue, Err, List, [], Option, map, refl, ap, sym, ◌∙◌, subst, arith}
+use Rattle.std.proofs.Common.{◌≡◌, ◌⊎◌, Some, inl, inr, true, IsTrue, Err, List, [], Option, map, refl, ap, sym, ◌∙◌, subst, arith, String, Global}
 use Rattle.file_commands.specs.declared.note.FaultNote.{FaultNote}
 use Rattle.file_commands.specs.Notes.{notes_said}
 use Rattle.file_commands.specs.Counts.{AreCounted}
@@ -13,16 +13,17 @@ use Rattle.file_traits.specs.Lists.{NamedBytes}
 use Rattle.state_transfer.specs.SavedValid.{AreStandard}
 use Rattle.command_session.specs.Live.{CommandState, beyond}
 use Rattle.scp_script.specs.Loop.{AreKept}
-use Rattle.nova_top.specs.declared.word_files.Refusal.{Refusal}
-use Rattle.nova_top.specs.Ends.{AreWordClosings, InputTells, HasKeysFile, HasScript}
-use Rattle.nova_top.specs.Used.{NamesTold}
+use Rattle.program_start.specs.declared.word_files.Refusal.{Refusal}
+use Rattle.program_start.specs.WordFiles.{AreWordClosings, NamesTold, StartsWith}
+use Rattle.nova_top.specs.Ends.{InputTells, HasKeysFile, HasScript}
+use Rattle.program_start.specs.Start.{Begins}
+use Rattle.nova_top.specs.Program.{OpensAs, script_text}
+use Rattle.nova_top.proofs.OpeningLemmas.{text-begins, opens}
 use Rattle.nova_top.proofs.UsedLemmas.{words-named, course-told}
 use Rattle.command_words.specs.Words.{options_of, texts_of}
 use Rattle.command_words.specs.declared.options.Options.{Options}
-use Rattle.std.proofs.Common.{String, Global}
-use Rattle.nova_top.specs.Workload.{with_workload}
-use Rattle.nova_top.proofs.ProgramLemmas.{Begun, Made, begun-files, begun-line, new-slots, new-standard, workload-given}
-use Rattle.nova_top.proofs.ProgramLemmas.{kept-exact, refused-exact, no-exact, usage-answer, files-answer, files-memory, files-status, files-cause, session-answer, memory-answer, session-cause, session-status, refused-status, kept-counted, refused-counted, complete-answer, never-unwritten, denied-unwritten, unwritten-whole}
+use Rattle.program_start.specs.Workload.{with_workload}
+use Rattle.nova_top.proofs.ProgramLemmas.{Begun, Made, begun-files, begun-line, new-slots, new-standard, workload-given, kept-exact, refused-exact, no-exact, usage-answer, files-answer, files-memory, files-status, files-cause, session-answer, memory-answer, session-cause, session-status, refused-status, kept-counted, refused-counted, complete-answer, never-unwritten, denied-unwritten, unwritten-whole}
 use Rattle.nova_top.proofs.PortLemmas.{lines-unasked}
 use Rattle.nova_top.proofs.ResumptionLemmas.{resumes-saved}
 use Rattle.nova_top.proofs.UnreadLemmas.{usage-opened, refused-unopened, refused-keys, refused-measured, session-opened, session-keys, session-measured}
@@ -103,16 +104,30 @@ made g c = record {
   around = c.in-Ok.ensures.around;
 }
 
+-- it is opened with what the files of the words say
+starts-with : (g : Over) (c : goal.After-run_session-arg-in-Ok-begin-2-1 g) → NamesTold g.F.Files.tells c.in-Some.options
+    → StartsWith (texts_of c.args.words.now) c.in-Some.options (g.F.Files.state c.args.files.now).files (notes_said c.begin.new.notes.items)
+    (Begins c.in-Some.options c.in-Ok-begin.field-0.keys (script_text c.open_with-opening.result))
+starts-with g c told =
+    text-begins (texts_of c.args.words.now) c.in-Some.options (g.F.Files.state c.args.files.now).files c.in-Ok-begin.field-0.keys c.in-Ok-begin.field-0.script (notes_said c.begin.new.notes.items)
+    c.open_with-opening.result c.open_with-opening.ensures.script (c.in-Ok-begin.ensures.told told)
+
+opens-with : (g : Over) (c : goal.After-run_session-arg-in-Ok-begin-2-1 g) → OpensAs (texts_of c.args.words.now) c.in-Some.options c.open_with-opening.result
+opens-with g c =
+    let opening = c.open_with-opening.ensures in
+    opens (texts_of c.args.words.now) c.in-Some.options c.in-Ok-begin.field-0.script c.in-Ok-begin.field-0.arguments c.open_with-opening.result opening.script opening.arguments opening.reads opening.prompt opening.budget
+    c.in-Ok-begin.ensures.arguments
+
 begun : (g : Over) (c : goal.After-run_session-arg-in-Ok-begin-2-1 g)
-    → Begun (NamesTold g.F.Files.tells c.in-Some.options) (texts_of c.args.words.now) c.in-Some.options c.ready.result c.in-Ok-begin.field-0.opening (g.F.Files.state c.args.files.now) (g.F.Files.state c.begin.new.files)
+    → Begun (NamesTold g.F.Files.tells c.in-Some.options) (texts_of c.args.words.now) c.in-Some.options c.ready.result c.open_with-opening.result (g.F.Files.state c.args.files.now) (g.F.Files.state c.begin.new.files)
 begun g c =
     let words = texts_of c.args.words.now in
     let old = g.F.Files.state c.args.files.now in
     let new = g.F.Files.state c.begin.new.files in
-    let is_begun : CommandState → Type 0 = λ s. Begun (NamesTold g.F.Files.tells c.in-Some.options) words c.in-Some.options s c.in-Ok-begin.field-0.opening old new in
+    let is_begun : CommandState → Type 0 = λ s. Begun (NamesTold g.F.Files.tells c.in-Some.options) words c.in-Some.options s c.open_with-opening.result old new in
     subst is_begun (sym c.ready.ensures)
-    (begun-files (NamesTold g.F.Files.tells c.in-Some.options) words c.in-Some.options (map g.U.Unit.unit_state c.args.units.items) _ c.in-Ok.session (with_workload c.in-Some.options.workload c.session.inside.machine) c.in-Ok-begin.field-0.keys c.in-Ok-begin.field-0.opening c.begin.new.notes.items _ old new (made g c) c.session.view_is refl
-    c.in-Ok-begin.ensures.told c.in-Ok-begin.ensures.opens c.begin.ensures.files c.begin.ensures.opened c.begin.ensures.keeps)
+    (begun-files (NamesTold g.F.Files.tells c.in-Some.options) words c.in-Some.options (map g.U.Unit.unit_state c.args.units.items) _ c.in-Ok.session (with_workload c.in-Some.options.workload c.session.inside.machine) c.in-Ok-begin.field-0.keys c.open_with-opening.result c.begin.new.notes.items _ old new (made g c) c.session.view_is refl
+    (starts-with g c) (opens-with g c) c.begin.ensures.files c.begin.ensures.opened c.begin.ensures.keeps)
 
 -- nothing is attached to its machine
 unattached : (g : Over) (c : goal.After-run_session-arg-in-Ok-begin-2-1 g) → c.ready.result.machine.slots ≡ no_files
@@ -133,14 +148,14 @@ standard-units g c =
     ∙ new-standard workload units c.requires
 
 -- where the session reads the input, no workload is among the words
-told-input : (g : Over) (c : goal.After-run_session-arg-in-Ok-begin-2-1 g) → InputTells (texts_of c.args.words.now) g.C.Source.tells → c.in-Ok-begin.field-0.opening.reads ≡ true → IsTrue g.C.Source.tells
+told-input : (g : Over) (c : goal.After-run_session-arg-in-Ok-begin-2-1 g) → InputTells (texts_of c.args.words.now) g.C.Source.tells → c.open_with-opening.result.reads ≡ true → IsTrue g.C.Source.tells
 told-input g c tells on =
     tells (λ given.
-    let off = c.in-Ok-begin.ensures.opens.reads ∙ workload-given (texts_of c.args.words.now) c.in-Some.options (sym c.options_of.ensures.options ∙ c.in-Some.is) given in absurd (cc (on, off)))
+    let off = c.open_with-opening.ensures.reads ∙ workload-given (texts_of c.args.words.now) c.in-Some.options (sym c.options_of.ensures.options ∙ c.in-Some.is) given in absurd (cc (on, off)))
 
 pub run_session-requires-clause-lines : goal.run_session-requires-clause-lines
 run_session-requires-clause-lines g c =
-    begun-line (NamesTold g.F.Files.tells c.in-Some.options) (texts_of c.args.words.now) c.in-Some.options _ c.in-Ok-begin.field-0.opening (g.F.Files.state c.args.files.now) (g.F.Files.state c.begin.new.files)
+    begun-line (NamesTold g.F.Files.tells c.in-Some.options) (texts_of c.args.words.now) c.in-Some.options _ c.open_with-opening.result (g.F.Files.state c.args.files.now) (g.F.Files.state c.begin.new.files)
     (begun g (goal.at.run_session-requires-clause-lines g c).After-run_session-arg-in-Ok-begin-2-1)
 
 pub run_session-requires-clause-standard : goal.run_session-requires-clause-standard
@@ -165,10 +180,10 @@ returns-in-Ok-begin-clause-outcome g c = λ source used sink other whole first.
     let after = (goal.at.returns-in-Ok-begin-clause-outcome g c).After-run_session-arg-in-Ok-begin-2-1 in
     let chosen = sym c.options_of.ensures.options ∙ c.in-Some.is in
     let names = named g c.args.words.now c.in-Some.options chosen used.names in
-    let course = λ (b : Begun (NamesTold g.F.Files.tells c.in-Some.options) (texts_of c.args.words.now) c.in-Some.options c.ready.result c.in-Ok-begin.field-0.opening (g.F.Files.state c.args.files.now) (g.F.Files.state c.begin.new.files)).
-    course-told g.F.Files.tells g.L.Lines.tells (NamesTold g.F.Files.tells c.in-Some.options) (texts_of c.args.words.now) c.in-Some.options c.ready.result c.in-Ok-begin.field-0.opening
+    let course = λ (b : Begun (NamesTold g.F.Files.tells c.in-Some.options) (texts_of c.args.words.now) c.in-Some.options c.ready.result c.open_with-opening.result (g.F.Files.state c.args.files.now) (g.F.Files.state c.begin.new.files)).
+    course-told g.F.Files.tells g.L.Lines.tells (NamesTold g.F.Files.tells c.in-Some.options) (texts_of c.args.words.now) c.in-Some.options c.ready.result c.open_with-opening.result
     (g.F.Files.state c.args.files.now) (g.F.Files.state c.begin.new.files) (g.L.Lines.state c.args.lines.now) (g.C.Source.left c.args.input.now) chosen b names used in
-    session-answer (NamesTold g.F.Files.tells c.in-Some.options) (texts_of c.args.words.now) c.in-Some.options _ c.in-Ok-begin.field-0.opening (g.F.Files.state c.args.files.now) (g.F.Files.state c.begin.new.files) (g.L.Lines.state c.args.lines.now) whole
+    session-answer (NamesTold g.F.Files.tells c.in-Some.options) (texts_of c.args.words.now) c.in-Some.options _ c.open_with-opening.result (g.F.Files.state c.args.files.now) (g.F.Files.state c.begin.new.files) (g.L.Lines.state c.args.lines.now) whole
     (beyond (g.F.Files.state c.run_session.new.files).files (g.L.Lines.state c.run_session.new.lines) whole)
     (g.C.Source.left c.args.input.now) (g.C.Source.left c.run_session.new.input) (g.S.Sink.written c.args.output.now) (g.S.Sink.written c.run_session.new.output) finish watch now c.run_session.result.status c.run_session.result.machine
     (notes_said c.run_session.result.faults.items) (sym c.options_of.ensures.options ∙ c.in-Some.is) (begun g after) names cause.exit status machine other (told (told-input g after source) (course (begun g after)) sink whole first)
@@ -179,10 +194,10 @@ returns-in-Ok-begin-clause-memory g c = λ source used sink memory whole first.
     let after = (goal.at.returns-in-Ok-begin-clause-memory g c).After-run_session-arg-in-Ok-begin-2-1 in
     let chosen = sym c.options_of.ensures.options ∙ c.in-Some.is in
     let names = named g c.args.words.now c.in-Some.options chosen used.names in
-    let course = λ (b : Begun (NamesTold g.F.Files.tells c.in-Some.options) (texts_of c.args.words.now) c.in-Some.options c.ready.result c.in-Ok-begin.field-0.opening (g.F.Files.state c.args.files.now) (g.F.Files.state c.begin.new.files)).
-    course-told g.F.Files.tells g.L.Lines.tells (NamesTold g.F.Files.tells c.in-Some.options) (texts_of c.args.words.now) c.in-Some.options c.ready.result c.in-Ok-begin.field-0.opening
+    let course = λ (b : Begun (NamesTold g.F.Files.tells c.in-Some.options) (texts_of c.args.words.now) c.in-Some.options c.ready.result c.open_with-opening.result (g.F.Files.state c.args.files.now) (g.F.Files.state c.begin.new.files)).
+    course-told g.F.Files.tells g.L.Lines.tells (NamesTold g.F.Files.tells c.in-Some.options) (texts_of c.args.words.now) c.in-Some.options c.ready.result c.open_with-opening.result
     (g.F.Files.state c.args.files.now) (g.F.Files.state c.begin.new.files) (g.L.Lines.state c.args.lines.now) (g.C.Source.left c.args.input.now) chosen b names used in
-    memory-answer (NamesTold g.F.Files.tells c.in-Some.options) (texts_of c.args.words.now) c.in-Some.options _ c.in-Ok-begin.field-0.opening (g.F.Files.state c.args.files.now) (g.F.Files.state c.begin.new.files) (g.L.Lines.state c.args.lines.now) whole
+    memory-answer (NamesTold g.F.Files.tells c.in-Some.options) (texts_of c.args.words.now) c.in-Some.options _ c.open_with-opening.result (g.F.Files.state c.args.files.now) (g.F.Files.state c.begin.new.files) (g.L.Lines.state c.args.lines.now) whole
     (beyond (g.F.Files.state c.run_session.new.files).files (g.L.Lines.state c.run_session.new.lines) whole)
     (g.C.Source.left c.args.input.now) (g.C.Source.left c.run_session.new.input) (g.S.Sink.written c.args.output.now) (g.S.Sink.written c.run_session.new.output) finish watch now c.run_session.result.status c.run_session.result.machine
     (notes_said c.run_session.result.faults.items) (sym c.options_of.ensures.options ∙ c.in-Some.is) (begun g after) names cause.exit status machine memory (told (told-input g after source) (course (begun g after)) sink whole first)
@@ -253,7 +268,7 @@ returns-in_default-clause-workload g c = λ given. refl
 
 pub returns-in-Ok-begin-clause-workload : goal.returns-in-Ok-begin-clause-workload
 returns-in-Ok-begin-clause-workload g c = λ given.
-    c.run_session.ensures.unread (c.in-Ok-begin.ensures.opens.reads ∙ workload-given (texts_of c.args.words.now) c.in-Some.options (sym c.options_of.ensures.options ∙ c.in-Some.is) given)
+    c.run_session.ensures.unread (c.open_with-opening.ensures.reads ∙ workload-given (texts_of c.args.words.now) c.in-Some.options (sym c.options_of.ensures.options ∙ c.in-Some.is) given)
 
 -- ---- the files that the notes name
 

@@ -1,7 +1,0 @@
-use Rattle.std.proofs.Common.{◌≡◌, take}
-use Rattle.command_words.specs.Words.{texts_of}
-use Rattle.nova_top.proofs.word_files.copy_words.Given as goal
-
--- the words so far are copied
-abbrev pub invariant-loop-word : goal.invariant-loop-word
-invariant-loop-word l = texts_of l.copies.items ≡ take l.word-index (texts_of l.words)

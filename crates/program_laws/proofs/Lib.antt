@@ -1,0 +1,4 @@
+pub mod OutcomeLemmas
+pub mod ToldLemmas
+pub mod ValidLemmas
+pub mod ResumptionLemmas

@@ -1,0 +1,4 @@
+pub mod Laws
+pub mod Valid
+pub mod Resumption
+pub mod Told

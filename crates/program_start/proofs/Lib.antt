@@ -1,0 +1,6 @@
+pub mod WorkloadLemmas
+pub mod WordFileLemmas
+pub mod ReadingLemmas
+pub mod ToldLemmas
+pub mod UnreadLemmas
+pub mod RefusalLemmas

@@ -1,0 +1,4 @@
+pub mod Workload
+pub mod Start
+pub mod WordFiles
+pub mod Unread
