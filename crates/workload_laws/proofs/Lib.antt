@@ -1,0 +1,4 @@
+pub mod Unwatched
+pub mod OwnScript
+pub mod WorkloadWords
+pub mod WorkloadTold
