@@ -2,3 +2,4 @@ pub mod Laws
 pub mod Valid
 pub mod Resumption
 pub mod Told
+pub mod WorkloadUse

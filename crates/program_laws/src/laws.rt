@@ -2,6 +2,7 @@ ghost use Rattle.program_laws.specs.Laws.{MoreRoomSameEnd, TakesFirstPart, Whole
 ghost use Rattle.program_laws.specs.Resumption.{RestoredProgramsGoOn};
 ghost use Rattle.program_laws.specs.Valid.{ProgramStaysValid};
 ghost use Rattle.program_laws.specs.Told.{ToldIsEnough};
+ghost use Rattle.program_laws.specs.WorkloadUse.{WorkloadUsesNothing};
 
 /// The law that a console that takes more comes to the same end, where none of its bytes was refused.
 pub fn more_room_same_end()
@@ -35,4 +36,10 @@ pub fn restored_programs_go_on()
 /// of them.
 pub fn told_is_enough()
     ensures { ToldIsEnough }
+{}
+
+/// The law that the program of `-g` uses no file and no line, whatever these tell, but for the keys file, where the
+/// words name one: all that `simulate` claims of it where files and lines tell what is used, stands there.
+pub fn workload_uses_nothing()
+    ensures { WorkloadUsesNothing }
 {}

@@ -6,5 +6,5 @@ pub mod laws;
 
 pub use laws::{
     console_takes_first_part, more_room_same_end, program_stays_valid, restored_programs_go_on,
-    told_is_enough, whole_without_faults,
+    told_is_enough, whole_without_faults, workload_uses_nothing,
 };
