@@ -6,11 +6,30 @@ use mio::net::TcpStream;
 use std::alloc::Global;
 use std::io::{Read, Write};
 use std::net::{Ipv4Addr, Net, SocketAddr};
-use std::test::Fail;
+use std::process::Abort;
 
 /// The first of some ports that is free; it is listened on then.
-fn free_port<N: Net>(alloc: Global, lines: &mut RealLines<'_, N>) -> Option<u16> {
-    (47_100..47_200u16).find(|port| lines.listen(alloc, *port).is_ok())
+fn free_port<N: Net>(alloc: Global, lines: &mut RealLines<'_, N>) -> Result<u16, &'static str> {
+    match (47_100..47_200u16).find(|port| lines.listen(alloc, *port).is_ok()) {
+        Some(port) => Ok(port),
+        None => Err("no port is free"),
+    }
+}
+
+/// A caller of a port.
+fn connected<N: Net>(net: &N, port: u16) -> Result<TcpStream, &'static str> {
+    match TcpStream::connect(net, SocketAddr::from((Ipv4Addr::LOCALHOST, port))) {
+        Ok(peer) => Ok(peer),
+        Err(_) => Err("no caller can connect"),
+    }
+}
+
+/// It is so; else why that was not tried.
+fn is_so(rt: &impl Abort, found: Result<bool, &'static str>, what: &str) {
+    match found {
+        Ok(so) => holds(rt, so, what),
+        Err(why) => holds(rt, false, why),
+    }
 }
 
 /// The caller, once it was accepted.
@@ -76,16 +95,21 @@ fn are_exchanged<N: Net>(lines: &mut RealLines<'_, N>, port: u16, peer: &mut Tcp
     }
 }
 
+fn go_each_way<N: Net>(
+    net: &N,
+    alloc: Global,
+    lines: &mut RealLines<'_, N>,
+) -> Result<bool, &'static str> {
+    let port = free_port(alloc, lines)?;
+    let mut peer = connected(net, port)?;
+    Ok(are_exchanged(lines, port, &mut peer) && lines.faults() == 0)
+}
+
 #[test]
-fn bytes_come_through_and_go_back(rt: HostRuntime) -> Result<(), Fail> {
+fn bytes_come_through_and_go_back(rt: HostRuntime) {
     let mut lines = RealLines::new(rt.alloc(), &rt);
-    let Some(port) = free_port(rt.alloc(), &mut lines) else {
-        return Err(Fail::from("no port is free"));
-    };
-    let mut peer = TcpStream::connect(&rt, SocketAddr::from((Ipv4Addr::LOCALHOST, port)))?;
-    let so = are_exchanged(&mut lines, port, &mut peer);
-    holds(&rt, so && lines.faults() == 0, "a byte each way");
-    Ok(())
+    let found = go_each_way(&rt, rt.alloc(), &mut lines);
+    is_so(&rt, found, "a byte each way");
 }
 
 /// Whether a caller at that address of this computer is let in; none where its system has no such address.
@@ -96,37 +120,46 @@ fn is_let_in<N: Net>(net: &N, lines: &mut RealLines<'_, N>, port: u16, at: Ipv4A
     }
 }
 
+fn lets_in_its_own<N: Net>(
+    net: &N,
+    alloc: Global,
+    lines: &mut RealLines<'_, N>,
+) -> Result<bool, &'static str> {
+    let port = free_port(alloc, lines)?;
+    let other = is_let_in(net, lines, port, Ipv4Addr::new(127, 0, 0, 2));
+    let own = is_let_in(net, lines, port, Ipv4Addr::new(127, 0, 0, 1));
+    Ok(own && !other)
+}
+
 // A port that is open on every address of the computer would let both in.
 #[test]
-fn only_callers_of_the_own_address_are_let_in(rt: HostRuntime) -> Result<(), Fail> {
+fn only_callers_of_the_own_address_are_let_in(rt: HostRuntime) {
     let mut lines = RealLines::new(rt.alloc(), &rt);
-    let Some(port) = free_port(rt.alloc(), &mut lines) else {
-        return Err(Fail::from("no port is free"));
-    };
-    let other = is_let_in(&rt, &mut lines, port, Ipv4Addr::new(127, 0, 0, 2));
-    let own = is_let_in(&rt, &mut lines, port, Ipv4Addr::new(127, 0, 0, 1));
-    holds(
-        &rt,
-        own && !other,
-        "127.0.0.1 is let in, and 127.0.0.2 is not",
-    );
-    Ok(())
+    let found = lets_in_its_own(&rt, rt.alloc(), &mut lines);
+    is_so(&rt, found, "127.0.0.1 is let in, and 127.0.0.2 is not");
+}
+
+fn is_let_in_late<N: Net>(
+    net: &N,
+    alloc: Global,
+    lines: &mut RealLines<'_, N>,
+) -> Result<bool, &'static str> {
+    let port = free_port(alloc, lines)?;
+    let early = lines.accept(port, 0);
+    let mut peer = connected(net, port)?;
+    let resting = lines.accept(port, 1);
+    if early != Ok(None) || resting != Ok(None) {
+        return Err("nobody yet");
+    }
+    Ok(are_exchanged(lines, port, &mut peer) && lines.faults() == 0)
 }
 
 // Nobody has called at first, and a call that would wait makes the next ones rest.
 #[test]
-fn a_caller_who_comes_late_is_let_in(rt: HostRuntime) -> Result<(), Fail> {
+fn a_caller_who_comes_late_is_let_in(rt: HostRuntime) {
     let mut lines = RealLines::new(rt.alloc(), &rt);
-    let Some(port) = free_port(rt.alloc(), &mut lines) else {
-        return Err(Fail::from("no port is free"));
-    };
-    let early = lines.accept(port, 0);
-    let mut peer = TcpStream::connect(&rt, SocketAddr::from((Ipv4Addr::LOCALHOST, port)))?;
-    let resting = lines.accept(port, 1);
-    let so = are_exchanged(&mut lines, port, &mut peer);
-    holds(&rt, early == Ok(None) && resting == Ok(None), "nobody yet");
-    holds(&rt, so && lines.faults() == 0, "the caller is let in later");
-    Ok(())
+    let found = is_let_in_late(&rt, rt.alloc(), &mut lines);
+    is_so(&rt, found, "the caller is let in later");
 }
 
 /// Sends pieces that nobody reads until one is not taken, and answers how many bytes were; none where a send fails or
@@ -159,22 +192,36 @@ fn drained(peer: &mut TcpStream, most: usize) -> usize {
     count
 }
 
+/// Whether all that a socket took until it was full has come to the peer.
+fn is_filled<N: Net>(
+    lines: &mut RealLines<'_, N>,
+    port: u16,
+    peer: &mut TcpStream,
+) -> Result<bool, &'static str> {
+    let Some(conn) = accepted(lines, port) else {
+        return Err("the caller is not let in");
+    };
+    match fills(lines, conn) {
+        Some(count) => Ok(count > 0 && drained(peer, count.saturating_add(1)) == count),
+        None => Err("the socket is never full"),
+    }
+}
+
+fn takes_nothing_when_full<N: Net>(
+    net: &N,
+    alloc: Global,
+    lines: &mut RealLines<'_, N>,
+) -> Result<bool, &'static str> {
+    let port = free_port(alloc, lines)?;
+    let mut peer = connected(net, port)?;
+    is_filled(lines, port, &mut peer)
+}
+
 // Each byte that a full socket was said to take comes to the peer, and no more.
 #[test]
-fn a_full_socket_takes_nothing(rt: HostRuntime) -> Result<(), Fail> {
+fn a_full_socket_takes_nothing(rt: HostRuntime) {
     let mut lines = RealLines::new(rt.alloc(), &rt);
-    let Some(port) = free_port(rt.alloc(), &mut lines) else {
-        return Err(Fail::from("no port is free"));
-    };
-    let mut peer = TcpStream::connect(&rt, SocketAddr::from((Ipv4Addr::LOCALHOST, port)))?;
-    let Some(conn) = accepted(&mut lines, port) else {
-        return Err(Fail::from("the caller is not let in"));
-    };
-    let Some(count) = fills(&mut lines, conn) else {
-        return Err(Fail::from("the socket is never full"));
-    };
-    let came = drained(&mut peer, count.saturating_add(1));
-    holds(&rt, count > 0 && came == count, "what was taken has come");
+    let found = takes_nothing_when_full(&rt, rt.alloc(), &mut lines);
+    is_so(&rt, found, "what was taken has come");
     holds(&rt, lines.faults() == 0, "a full socket is no fault");
-    Ok(())
 }

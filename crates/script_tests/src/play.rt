@@ -3,11 +3,10 @@
 // (`files`), the input and its read that fails (`input` and `read`), whether it is read behind the script and after a prompt
 // (`reads=no` and `prompt=no`), the budget and how many bytes the console takes (`room`); and then what is printed
 // (`prints`), how the session finishes and how many reads have failed (`faults`).
-ghost use Rattle.std.specs.Prelude.{◌≡◌, List, IfOk, map, take};
+ghost use Rattle.std.specs.Prelude.{List, IfOk, map};
 ghost use Rattle.file_traits.specs.State.{Opened};
 ghost use Rattle.unit_files.specs.Open.{AllOpen};
-ghost use Rattle.unit_trait.specs.Kinds.{all_kinds};
-ghost use Rattle.unit_trait.specs.Row.{initial_unit};
+ghost use Rattle.command_words.specs.Standard.{IsStandard};
 ghost use Rattle.state_transfer.specs.SavedValid.{AreStandard};
 
 use crate::row::{Row, bytes, decimal, number, text};
@@ -43,7 +42,7 @@ fn with_units<U: Unit>(
     units: Vec<U>,
     row: Row<'_>,
 ) -> Result<(), Fail>
-    requires { map U.unit_state units.items ≡ map initial_unit (take 10 all_kinds) }
+    requires { IsStandard (map U.unit_state units.items) }
 {
     let mut session = opened(alloc, units)?;
     with_session(rt, alloc, &mut session, row)
@@ -51,7 +50,7 @@ fn with_units<U: Unit>(
 
 /// A session of a machine with these units.
 fn opened<U: Unit>(alloc: Global, units: Vec<U>) -> Result<Session<U>, AllocError>
-    requires { map U.unit_state units.items ≡ map initial_unit (take 10 all_kinds) }
+    requires { IsStandard (map U.unit_state units.items) }
     ensures open { IfOk result (λ s. (opened : List Opened) → AllOpen s.machine.slots opened) }
     ensures standard { IfOk result (λ s. AreStandard s.machine.units) }
 {
@@ -168,13 +167,23 @@ fn finish_of<U: Unit, C: Source, F: Files, S: Sink>(
     requires standard { AreStandard session.old.machine.units }
 {
     let opening = opening_of(alloc, row)?;
-    let mut lines = no_lines(alloc)?;
-    Ok(perform(alloc, session, &opening, input, files, &mut lines, console))
+    performed(alloc, session, &opening, input, files, console)
 }
 
-/// Lines on which nothing comes and nothing is sent.
-fn no_lines(alloc: Global) -> Result<MemLines, AllocError> {
-    MemLines::with_room(alloc, 0)
+/// How a session finishes over lines on which nothing comes and nothing is sent.
+fn performed<U: Unit, C: Source, F: Files, S: Sink>(
+    alloc: Global,
+    session: &mut Session<U>,
+    opening: &Opening,
+    input: &mut C,
+    files: &mut F,
+    console: &mut S,
+) -> Result<Finish, AllocError>
+    requires open { AllOpen session.old.machine.slots (F.state files.old).opened }
+    requires standard { AreStandard session.old.machine.units }
+{
+    let mut lines = MemLines::with_room(alloc, 0)?;
+    Ok(perform(alloc, session, opening, input, files, &mut lines, console))
 }
 
 fn opening_of(alloc: Global, row: Row<'_>) -> Result<Opening, AllocError> {

@@ -1,4 +1,4 @@
-//! Tests of texts: quoted ones, lines that are put together, words of a line, and scripts.
+//! Tests of texts: quoted ones, lines that are put together, words of a line, scripts, and symbolic texts of words.
 #![tactic(auto)]
 
 #[cfg(test)]
@@ -13,6 +13,8 @@ mod labels;
 mod lines;
 #[cfg(test)]
 mod quoted;
+#[cfg(test)]
+mod symbols;
 #[cfg(test)]
 mod texts;
 #[cfg(test)]

@@ -1,6 +1,8 @@
 // Events that wait, with their times and ties.
+use crate::checked::holds;
 use event_queue::Events;
 use std::alloc::{AllocError, Global};
+use std::process::Abort;
 use std::test::Fail;
 use unit_trait::{Kind, Queue, UnitName, units_of};
 
@@ -72,7 +74,7 @@ fn ties_keep_the_order_of_activation(rt: HostRuntime) -> Result<(), Fail> {
         (Kind::Mta, 7, 5),
     ];
     let events = five(rt.alloc())?;
-    assert!(rt; stand(&events, &ORDER));
+    holds(&rt, stand(&events, &ORDER), "five events");
     Ok(())
 }
 
@@ -85,8 +87,8 @@ fn ask_again(events: &Events, again: &mut Events) {
     }
 }
 
-#[test]
-fn events_that_are_asked_for_again_stand_as_they_stood(rt: HostRuntime) -> Result<(), Fail> {
+/// The five events two instructions later, asked for in another list.
+fn stand_again(rt: &impl Abort, alloc: Global, events: &Events) -> Result<(), AllocError> {
     const ORDER: [Row; 5] = [
         (Kind::Lpt, 0, 1),
         (Kind::Ptp, 0, 2),
@@ -94,11 +96,17 @@ fn events_that_are_asked_for_again_stand_as_they_stood(rt: HostRuntime) -> Resul
         (Kind::Tti, 0, 3),
         (Kind::Mta, 7, 3),
     ];
+    let mut again = Events::new(alloc)?;
+    ask_again(events, &mut again);
+    holds(rt, stand(&again, &ORDER), "asked for again");
+    Ok(())
+}
+
+#[test]
+fn events_that_are_asked_for_again_stand_as_they_stood(rt: HostRuntime) -> Result<(), Fail> {
     let mut events = five(rt.alloc())?;
-    let mut again = Events::new(rt.alloc())?;
     pass(&mut events, 2);
-    ask_again(&events, &mut again);
-    assert!(rt; stand(&again, &ORDER));
+    stand_again(&rt, rt.alloc(), &events)?;
     Ok(())
 }
 
@@ -133,12 +141,16 @@ const SERVED: [&[Kind]; 8] = [
     &[],
 ];
 
+fn are_served(rt: &impl Abort, events: &mut Events) {
+    for kinds in SERVED.iter() {
+        holds(rt, served(events, kinds), "a moment");
+    }
+}
+
 #[test]
 fn an_event_is_due_at_its_time_and_not_before(rt: HostRuntime) -> Result<(), Fail> {
     let mut events = five(rt.alloc())?;
-    for kinds in SERVED.iter() {
-        assert!(rt; served(&mut events, kinds));
-    }
+    are_served(&rt, &mut events);
     Ok(())
 }
 
@@ -151,13 +163,21 @@ fn keeps_time(events: &mut Events, row: &(u32, u32, u32)) -> bool {
     stand(events, &[(Kind::Clk, 0, row.2)])
 }
 
+fn keep_time(rt: &impl Abort, events: &mut Events) {
+    for row in AGAIN.iter() {
+        asked(rt, keeps_time(events, row), row.0);
+    }
+    holds(rt, served(events, &[Kind::Clk]), "the clock is served");
+}
+
+fn asked(rt: &impl Abort, so: bool, delay: u32) {
+    assert!(rt; so, "asked {delay}");
+}
+
 #[test]
 fn a_second_activation_keeps_the_first_time(rt: HostRuntime) -> Result<(), Fail> {
     let mut events = Events::new(rt.alloc())?;
-    for row in AGAIN.iter() {
-        assert!(rt; keeps_time(&mut events, row), "asked {}", row.0);
-    }
-    assert!(rt; served(&mut events, &[Kind::Clk]));
+    keep_time(&rt, &mut events);
     Ok(())
 }
 
@@ -181,15 +201,19 @@ fn cancels_all_drives(events: &mut Events) -> bool {
     all && stand(events, &LEFT)
 }
 
+fn are_cancelled(rt: &impl Abort, events: &mut Events) {
+    for drive in 0..8u8 {
+        ask(events, Kind::Mta, drive, 2);
+    }
+    holds(rt, cancels_all_drives(events), "all drives");
+    events.clear();
+    holds(rt, stand(events, &[]), "all events");
+}
+
 #[test]
 fn all_drives_are_cancelled_at_once(rt: HostRuntime) -> Result<(), Fail> {
     let mut events = five(rt.alloc())?;
-    for drive in 0..8u8 {
-        ask(&mut events, Kind::Mta, drive, 2);
-    }
-    assert!(rt; cancels_all_drives(&mut events));
-    events.clear();
-    assert!(rt; stand(&events, &[]));
+    are_cancelled(&rt, &mut events);
     Ok(())
 }
 
@@ -213,13 +237,18 @@ fn ask_every_unit(events: &mut Events, kind: Kind) {
     }
 }
 
+fn all_wait(events: &mut Events) -> bool {
+    for kind in KINDS.iter() {
+        ask_every_unit(events, *kind);
+    }
+    stands_at(events, 0, &(Kind::Qty, 63, 37))
+        && stands_at(events, 80, &(Kind::Qty, 0, 100))
+        && events.in_order(81).is_none()
+}
+
 #[test]
 fn all_81_units_wait_at_once(rt: HostRuntime) -> Result<(), Fail> {
     let mut events = Events::new(rt.alloc())?;
-    for kind in KINDS.iter() {
-        ask_every_unit(&mut events, *kind);
-    }
-    assert!(rt; stands_at(&events, 0, &(Kind::Qty, 63, 37)));
-    assert!(rt; stands_at(&events, 80, &(Kind::Qty, 0, 100)) && events.in_order(81).is_none());
+    holds(&rt, all_wait(&mut events), "81 units");
     Ok(())
 }

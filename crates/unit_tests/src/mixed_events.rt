@@ -1,7 +1,9 @@
 // Calls of the events by chance, each beside the same call of a plain list.
+use crate::checked::holds;
 use crate::plain_events::{Waiting, add_up, ask, cancel, pass, stand, take};
 use event_queue::Events;
 use std::alloc::Global;
+use std::process::Abort;
 use std::test::Fail;
 use unit_trait::{Kind, UnitName, units_of};
 
@@ -121,14 +123,18 @@ fn stay_alike(alloc: Global, seed: u32, count: u32) -> Result<bool, Fail> {
 
 #[test]
 fn events_are_a_plain_list_behind_200_mixed_calls(rt: HostRuntime) -> Result<(), Fail> {
-    assert!(rt; stay_alike(rt.alloc(), 36, 200)?);
+    holds(&rt, stay_alike(rt.alloc(), 36, 200)?, "200 mixed calls");
     Ok(())
+}
+
+fn from_seed(rt: &impl Abort, so: bool, seed: u32) {
+    assert!(rt; so, "seed {seed}");
 }
 
 #[test]
 fn events_are_a_plain_list_behind_2000_calls_by_chance(rt: HostRuntime) -> Result<(), Fail> {
     for seed in 1..11u32 {
-        assert!(rt; stay_alike(rt.alloc(), seed, 200)?, "seed {seed}");
+        from_seed(&rt, stay_alike(rt.alloc(), seed, 200)?, seed);
     }
     Ok(())
 }

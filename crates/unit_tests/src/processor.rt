@@ -1,4 +1,5 @@
 // The table of the processor's registers.
+use crate::checked::holds;
 use unit_trait::CpuReg;
 
 const REGISTERS: [(CpuReg, &str, usize); 12] = [
@@ -24,7 +25,7 @@ fn is_register(number: usize, row: &(CpuReg, &str, usize)) -> bool {
 #[test]
 fn registers_of_the_processor_have_their_names_and_digits(rt: HostRuntime) {
     for (number, row) in REGISTERS.iter().enumerate() {
-        assert!(rt; is_register(number, row), "{}", row.1);
+        holds(&rt, is_register(number, row), row.1);
     }
-    assert!(rt; CpuReg::ALL.len() == REGISTERS.len());
+    holds(&rt, CpuReg::ALL.len() == REGISTERS.len(), "no more");
 }

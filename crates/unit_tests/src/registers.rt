@@ -1,4 +1,5 @@
 // The table of devices: registers, codes, mask bits and names.
+use crate::checked::{holds, of_kind, of_one};
 use unit_trait::{
     Kind, UnitName, code_of, is_cleared, mask_of, reg_initial, reg_limit, reg_text, takes_file,
     unit_text, units_of,
@@ -50,7 +51,7 @@ fn are_names(kind: Kind, names: &'static [u8]) -> bool {
 #[test]
 fn registers_stand_in_their_order(rt: HostRuntime) {
     for row in NAMES.iter() {
-        assert!(rt; are_names(row.0, row.1), "{:?}", row.0);
+        of_kind(&rt, are_names(row.0, row.1), row.0);
     }
 }
 
@@ -83,9 +84,10 @@ fn is_no_register(kind: Kind, i: u8) -> bool {
 #[test]
 fn registers_have_their_limits_and_what_they_hold_at_first(rt: HostRuntime) {
     for row in REGISTERS.iter() {
-        assert!(rt; is_register(row), "{:?} {}", row.0, row.1);
+        of_one(&rt, is_register(row), row.0, row.1);
     }
-    assert!(rt; is_no_register(Kind::Dsk, 8) && is_no_register(Kind::Mta, 17));
+    let none = is_no_register(Kind::Dsk, 8) && is_no_register(Kind::Mta, 17);
+    holds(&rt, none, "a register past the last");
 }
 
 /// A kind, its code, the bit of the mask word from 0, the most significant, and whether a file is attached.
@@ -114,7 +116,7 @@ fn is_kind(row: &(Kind, u8, u32, bool)) -> bool {
 #[test]
 fn kinds_have_their_codes_their_mask_bits_and_maybe_files(rt: HostRuntime) {
     for row in KINDS.iter() {
-        assert!(rt; is_kind(row), "{:?}", row.0);
+        of_kind(&rt, is_kind(row), row.0);
     }
 }
 
@@ -139,6 +141,6 @@ fn is_unit(kind: Kind, unit: u8, name: &[u8]) -> bool {
 #[test]
 fn units_have_their_names(rt: HostRuntime) {
     for row in UNITS.iter() {
-        assert!(rt; is_unit(row.0, row.1, row.2), "{:?} {}", row.0, row.1);
+        of_one(&rt, is_unit(row.0, row.1, row.2), row.0, row.1);
     }
 }

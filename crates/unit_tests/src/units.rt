@@ -1,9 +1,11 @@
 // A list of units: each is found by its code, asked and set.
 mod keys;
 
+use crate::checked::holds;
 use event_queue::Events;
 use keys::Keys;
 use std::alloc::{AllocError, Global};
+use std::process::Abort;
 use std::test::Fail;
 use unit_list::{
     Places, all_fit, calls_reach_one_unit, due_at, flags_at, got_at, has_unit, io_at, reg_at,
@@ -74,17 +76,25 @@ fn are_asked_by_code(units: &mut [Keys]) -> bool {
     first && flags && second && none && has_flags(units, 0o10, true, false)
 }
 
+fn are_set(units: &mut [Keys]) -> bool {
+    is_set(units, &(Kind::Tti, 3, 0o101, true))
+        && is_set(units, &(Kind::Tti1, 3, 0o102, true))
+        && is_set(units, &(Kind::Tti1, 1, 1, true))
+}
+
+fn are_found(units: &[Keys]) -> bool {
+    is_found(units, 0o10, true)
+        && is_found(units, 0o50, true)
+        && is_found(units, 0o14, false)
+        && is_found(units, 0, false)
+}
+
 #[test]
 fn a_word_goes_to_the_device_with_its_code(rt: HostRuntime) {
     let mut units = keyboards();
-    let set = is_set(&mut units, &(Kind::Tti, 3, 0o101, true))
-        && is_set(&mut units, &(Kind::Tti1, 3, 0o102, true))
-        && is_set(&mut units, &(Kind::Tti1, 1, 1, true));
-    let found = is_found(&units, 0o10, true)
-        && is_found(&units, 0o50, true)
-        && is_found(&units, 0o14, false)
-        && is_found(&units, 0, false);
-    assert!(rt; set && found && are_asked_by_code(&mut units));
+    holds(&rt, are_set(&mut units), "their registers");
+    holds(&rt, are_found(&units), "their codes");
+    holds(&rt, are_asked_by_code(&mut units), "their words");
 }
 
 /// Whether a table that is made once finds the same unit behind calls of it and of another.
@@ -102,7 +112,7 @@ fn is_kept(units: &mut [Keys]) -> bool {
 
 #[test]
 fn a_table_of_places_is_made_once(rt: HostRuntime) {
-    assert!(rt; is_kept(&mut keyboards()));
+    holds(&rt, is_kept(&mut keyboards()), "a table");
 }
 
 /// Whether a unit has these registers, and no more.
@@ -116,6 +126,13 @@ fn has_all(
     Ok(found.as_slice() == registers && usize::from(register_count(kind)) >= registers.len())
 }
 
+fn have_all(alloc: Global, units: &[Keys]) -> Result<bool, AllocError> {
+    let set = has_all(alloc, units, Kind::Tti, &[1, 0, 50, 0o303])?;
+    let other = has_all(alloc, units, Kind::Tti1, &[0, 0, 100, 0])?;
+    let none = has_all(alloc, units, Kind::Clk, &[])?;
+    Ok(set && other && none)
+}
+
 #[test]
 fn all_registers_of_a_unit_are_set_at_once(rt: HostRuntime) -> Result<(), Fail> {
     let mut units = keyboards();
@@ -125,10 +142,7 @@ fn all_registers_of_a_unit_are_set_at_once(rt: HostRuntime) -> Result<(), Fail> 
         Kind::Tti,
         &[1, 0, 50, 0o303],
     );
-    let set = has_all(rt.alloc(), &units, Kind::Tti, &[1, 0, 50, 0o303])?;
-    let other = has_all(rt.alloc(), &units, Kind::Tti1, &[0, 0, 100, 0])?;
-    let none = has_all(rt.alloc(), &units, Kind::Clk, &[])?;
-    assert!(rt; set && other && none);
+    holds(&rt, have_all(rt.alloc(), &units)?, "all registers");
     Ok(())
 }
 
@@ -145,16 +159,22 @@ fn takes_key(units: &mut [Keys]) -> bool {
     after.queue == Queue::After(100) && after.stop == UnitStop::Go && none.queue == Queue::Keep
 }
 
+fn all_want(units: &mut [Keys]) -> bool {
+    wants(units, CONSOLE, Want::Key)
+        && wants(units, SECOND, Want::LineKey(0))
+        && wants(units, CLOCK, Want::Nothing)
+}
+
+fn have_taken(units: &[Keys]) -> bool {
+    hold(units, Kind::Tti, [0, 1, 100, 0o301]) && hold(units, Kind::Tti1, [0, 0, 100, 0])
+}
+
 #[test]
 fn a_unit_is_served_by_its_name(rt: HostRuntime) {
     let mut units = keyboards();
-    let wants = wants(&mut units, CONSOLE, Want::Key)
-        && wants(&mut units, SECOND, Want::LineKey(0))
-        && wants(&mut units, CLOCK, Want::Nothing);
-    let taken = takes_key(&mut units);
-    let held = hold(&units, Kind::Tti, [0, 1, 100, 0o301])
-        && hold(&units, Kind::Tti1, [0, 0, 100, 0]);
-    assert!(rt; wants && taken && held);
+    holds(&rt, all_want(&mut units), "what they want");
+    holds(&rt, takes_key(&mut units), "a key");
+    holds(&rt, have_taken(&units), "their registers");
 }
 
 /// A register, a value, and whether it is taken.
@@ -178,17 +198,28 @@ fn is_set(units: &mut [Keys], row: &(Kind, u8, u32, bool)) -> bool {
     }
 }
 
+fn with_value(rt: &impl Abort, so: bool, row: &(Kind, u8, u32, bool)) {
+    assert!(rt; so, "{:?} {} {}", row.0, row.1, row.2);
+}
+
+fn are_limited(rt: &impl Abort, units: &mut [Keys]) {
+    for row in VALUES.iter() {
+        with_value(rt, is_set(units, row), row);
+    }
+}
+
+fn have_their_last(units: &[Keys]) -> bool {
+    all_fit(units);
+    hold(units, Kind::Tti, [0, 0, 1, 0o377])
+        && hold(units, Kind::Tti1, [1, 0, 65535, 0])
+        && reg_at(&Places::new(units), units, Kind::Clk, 0).is_none()
+}
+
 #[test]
 fn a_register_is_set_within_its_limits(rt: HostRuntime) {
     let mut units = keyboards();
-    for row in VALUES.iter() {
-        assert!(rt; is_set(&mut units, row), "{:?} {} {}", row.0, row.1, row.2);
-    }
-    all_fit(&units);
-    let held = hold(&units, Kind::Tti, [0, 0, 1, 0o377])
-        && hold(&units, Kind::Tti1, [1, 0, 65535, 0])
-        && reg_at(&Places::new(&units), &units, Kind::Clk, 0).is_none();
-    assert!(rt; held);
+    are_limited(&rt, &mut units);
+    holds(&rt, have_their_last(&units), "the last values");
 }
 
 /// Whether the event with that number is that unit's, in 100 instructions.
@@ -206,15 +237,23 @@ fn events_of_reset(alloc: Global, units: &mut [Keys]) -> Result<Events, AllocErr
     Ok(events)
 }
 
+fn both_wait(events: &Events) -> bool {
+    waits_at(events, 0, SECOND) && waits_at(events, 1, CONSOLE) && events.in_order(2).is_none()
+}
+
+fn are_reset(rt: &impl Abort, alloc: Global, units: &mut [Keys]) -> Result<(), AllocError> {
+    let events = events_of_reset(alloc, units)?;
+    holds(rt, both_wait(&events), "their events");
+    holds(rt, has_flags(units, 0o10, false, false), "DONE");
+    Ok(())
+}
+
 #[test]
 fn a_reset_wishes_in_bus_order(rt: HostRuntime) -> Result<(), Fail> {
     let mut units = keyboards();
     let set = is_set(&mut units, &(Kind::Tti, 1, 1, true));
-    let events = events_of_reset(rt.alloc(), &mut units)?;
+    holds(&rt, set, "DONE before");
     calls_reach_one_unit();
-    let waits = waits_at(&events, 0, SECOND)
-        && waits_at(&events, 1, CONSOLE)
-        && events.in_order(2).is_none();
-    assert!(rt; set && waits && has_flags(&units, 0o10, false, false));
+    are_reset(&rt, rt.alloc(), &mut units)?;
     Ok(())
 }

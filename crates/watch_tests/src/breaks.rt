@@ -6,7 +6,7 @@ use nova_word::{Addr, Word};
 use std::process::Abort;
 use std::test::Fail;
 
-fn address(digits: &str) -> Addr {
+pub fn address(digits: &str) -> Addr {
     Addr::of_word(Word((count(digits) % 65536) as u16))
 }
 
@@ -17,7 +17,7 @@ fn all(rt: &impl Abort, breaks: &mut Breaks, table: &str) {
 }
 
 /// Whether a call comes to what its line says.
-fn is_so(breaks: &mut Breaks, line: &str) -> bool {
+pub fn is_so(breaks: &mut Breaks, line: &str) -> bool {
     let (verb, rest) = cut(line, ' ');
     match verb {
         "add" => add(breaks, rest) == Some(Ok(())),

@@ -12,7 +12,7 @@ fn all(rt: &impl Abort, expects: &mut Expects, table: &str) {
 }
 
 /// Whether a call comes to what its line says.
-fn is_so(expects: &mut Expects, line: &str) -> bool {
+pub fn is_so(expects: &mut Expects, line: &str) -> bool {
     let (verb, rest) = cut(line, ' ');
     match verb {
         "add" => add(expects, rest) == Some(Ok(())),

@@ -12,7 +12,7 @@ fn all(rt: &impl Abort, sends: &mut Sends, table: &str) {
 }
 
 /// Whether a call comes to what its line says.
-fn is_so(sends: &mut Sends, line: &str) -> bool {
+pub fn is_so(sends: &mut Sends, line: &str) -> bool {
     let (verb, rest) = cut(line, ' ');
     match verb {
         "send" => send(sends, rest) == Ok(()),

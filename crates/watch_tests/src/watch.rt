@@ -1,64 +1,80 @@
-// The tables of a watch together.
-use crate::texts::check;
-use expect_actions::Watch;
-use nova_word::{Addr, Word};
+// The tables of a watch together, as lines that name a table before what is called of it.
+use crate::breaks::address;
+use crate::texts::{check, cut};
+use crate::{breaks, expects, sends};
+use expect_actions::{Breaks, Sends, Watch};
+use std::alloc::Global;
+use std::process::Abort;
 use std::test::Fail;
 
-fn here() -> Addr {
-    Addr::of_word(Word(64))
+fn all(rt: &impl Abort, watch: &mut Watch, table: &str) {
+    for line in table.lines() {
+        check(rt, is_so(watch, line), line);
+    }
 }
 
-fn are_empty(watch: &Watch) -> bool {
-    watch.breaks.is_empty() && watch.expects.in_order(0).is_none() && watch.sends.is_empty()
+/// Whether a call comes to what its line says.
+fn is_so(watch: &mut Watch, line: &str) -> bool {
+    let (table, call) = cut(line, ' ');
+    match table {
+        "has" => watch.breaks.has(address(call)),
+        "lacks" => !watch.breaks.has(address(call)),
+        "breaks" => breaks::is_so(&mut watch.breaks, call),
+        "expects" => expects::is_so(&mut watch.expects, call),
+        "sends" => sends::is_so(&mut watch.sends, call),
+        "forget" => {
+            watch.forget();
+            true
+        }
+        _ => false,
+    }
 }
 
-fn are_filled(watch: &mut Watch) -> bool {
-    watch.breaks.add(here(), 1, b"").is_ok()
-        && watch.expects.add(1, b"k", b"CONT").is_ok()
-        && watch.sends.add(0, 0, 1000, b"y").is_ok()
-        && watch.breaks.has(here())
-        && !watch.breaks.has(Addr::of_word(Word(65)))
+/// Plays the lines on new tables.
+fn plays(rt: &impl Abort, alloc: Global, table: &str) -> Result<(), Fail> {
+    let mut watch = Watch::new(alloc)?;
+    all(rt, &mut watch, table);
+    Ok(())
 }
 
-fn stay_without_breaks(watch: &mut Watch) -> bool {
-    watch.breaks.clear();
-    !watch.breaks.has(here())
-        && watch.expects.printed(b'k') == Some(0)
-        && watch.sends.take(0) == Some(b'y')
-}
+const APART: &str = "breaks empty
+expects empty
+sends empty
+breaks add 64:1:
+expects add 1:k:CONT
+sends send 0:0:1000:y
+has 64
+lacks 65
+breaks clear
+lacks 64
+expects stops 0 k
+sends takes 0:y";
 
 #[test]
 fn the_tables_of_a_watch_are_apart(rt: HostRuntime) -> Result<(), Fail> {
-    let mut watch = Watch::new(rt.alloc())?;
-    check(&rt, are_empty(&watch), "empty");
-    check(&rt, are_filled(&mut watch), "filled");
-    check(&rt, stay_without_breaks(&mut watch), "without breaks");
-    Ok(())
+    plays(&rt, rt.alloc(), APART)
 }
 
-/// Whether a stop at the break keeps its actions until they are forgotten.
-fn forgets(watch: &mut Watch) -> bool {
-    let added = watch.breaks.add(here(), 1, b"EX AC0").is_ok();
-    let stopped = watch.breaks.test(here()) == Some(0);
-    let kept = watch.breaks.actions_of() == b"EX AC0".as_slice();
-    watch.forget();
-    added && stopped && kept && watch.breaks.actions_of().is_empty() && watch.breaks.has(here())
-}
+// A stop at the break keeps its actions until they are forgotten.
+const FORGOTTEN: &str = "breaks add 64:1:EX AC0
+breaks stops 64 0
+breaks actions EX AC0
+forget
+breaks actions
+has 64";
 
 #[test]
 fn the_actions_of_a_stop_are_forgotten(rt: HostRuntime) -> Result<(), Fail> {
-    let mut watch = Watch::new(rt.alloc())?;
-    check(&rt, forgets(&mut watch), "the actions");
-    Ok(())
+    plays(&rt, rt.alloc(), FORGOTTEN)
 }
 
 /// Adds each break of a table to another.
-fn add_breaks(watch: &Watch, again: &mut Watch) -> bool {
-    for k in 0..watch.breaks.len() {
-        let Some((at, count, actions)) = watch.breaks.in_order(k) else {
+fn add_breaks(breaks: &Breaks, again: &mut Breaks) -> bool {
+    for k in 0..breaks.len() {
+        let Some((at, count, actions)) = breaks.in_order(k) else {
             return false;
         };
-        if actions.len() > 512 || again.breaks.add(at, count, actions).is_err() {
+        if actions.len() > 512 || again.add(at, count, actions).is_err() {
             return false;
         }
     }
@@ -66,52 +82,43 @@ fn add_breaks(watch: &Watch, again: &mut Watch) -> bool {
 }
 
 /// Queues each byte of a table in another, at its own time.
-fn add_sends(watch: &Watch, again: &mut Watch) -> bool {
-    for k in 0..watch.sends.len() {
-        let Some((time, byte)) = watch.sends.in_order(k) else {
+fn add_sends(sends: &Sends, again: &mut Sends) -> bool {
+    for k in 0..sends.len() {
+        let Some((time, byte)) = sends.in_order(k) else {
             return false;
         };
-        if again.sends.add(time, 0, 0, &[byte]).is_err() {
+        if again.add(time, 0, 0, &[byte]).is_err() {
             return false;
         }
     }
     true
 }
 
-fn fill(watch: &mut Watch) -> bool {
-    watch.breaks.add(Addr::of_word(Word(65)), 4, b"EX").is_ok()
-        && watch.breaks.add(here(), 0, b"").is_ok()
-        && watch.sends.add(10, 5, 1000, b"ab").is_ok()
-        && watch.sends.add(0, 0, 0, b"c").is_ok()
+fn are_added(rt: &impl Abort, watch: &Watch, again: &mut Watch) {
+    let so = add_breaks(&watch.breaks, &mut again.breaks)
+        && add_sends(&watch.sends, &mut again.sends);
+    check(rt, so, "added again");
 }
 
-fn has_the_breaks(watch: &Watch) -> bool {
-    watch.breaks.len() == 2
-        && watch.breaks.in_order(0) == Some((here(), 0, b"".as_slice()))
-        && watch.breaks.in_order(1) == Some((Addr::of_word(Word(65)), 4, b"EX".as_slice()))
-}
+const FILLED: &str = "breaks add 65:4:EX
+breaks add 64:0:
+sends send 10:5:1000:ab
+sends send 0:0:0:c";
 
-fn has_the_sends(watch: &Watch) -> bool {
-    watch.sends.len() == 3
-        && watch.sends.in_order(0) == Some((15, b'a'))
-        && watch.sends.in_order(1) == Some((1015, b'b'))
-        && watch.sends.in_order(2) == Some((1015, b'c'))
+const THE_SAME: &str = "breaks are 64:0:|65:4:EX
+sends are 15:a|1015:b|1015:c";
+
+/// New tables to which the entries of these are added have the same.
+fn are_the_same(rt: &impl Abort, alloc: Global, watch: &Watch) -> Result<(), Fail> {
+    let mut again = Watch::new(alloc)?;
+    are_added(rt, watch, &mut again);
+    all(rt, &mut again, THE_SAME);
+    Ok(())
 }
 
 #[test]
 fn tables_are_filled_again(rt: HostRuntime) -> Result<(), Fail> {
     let mut watch = Watch::new(rt.alloc())?;
-    let mut again = Watch::new(rt.alloc())?;
-    check(&rt, fill(&mut watch), "the tables");
-    check(
-        &rt,
-        add_breaks(&watch, &mut again) && add_sends(&watch, &mut again),
-        "added again",
-    );
-    check(
-        &rt,
-        has_the_breaks(&again) && has_the_sends(&again),
-        "the same",
-    );
-    Ok(())
+    all(&rt, &mut watch, FILLED);
+    are_the_same(&rt, rt.alloc(), &watch)
 }

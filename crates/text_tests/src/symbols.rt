@@ -1,4 +1,5 @@
 // Symbolic texts of words, worked out by hand.
+use crate::checked::holds;
 use nova_symbols::{SymbolFault, print, read};
 use nova_word::{Word, read_decimal, read_octal};
 use std::process::Abort;
@@ -132,62 +133,82 @@ fn word_row(line: &str) -> Option<(Word, &str)> {
 
 fn fault_row(line: &str) -> Option<(SymbolFault, &str)> {
     let (fault, text) = line.strip_suffix('|')?.split_once(" |")?;
-    if fault == "UnknownName" {
-        return Some((SymbolFault::UnknownName, text));
-    }
-    let (name, digits) = fault.split_once(' ')?;
+    Some((fault_of(fault)?, text))
+}
+
+fn fault_of(text: &str) -> Option<SymbolFault> {
+    let (name, digits) = text.split_once(' ').unwrap_or((text, "0"));
     let place = (read_decimal(digits.as_bytes()).ok()? % 65536) as usize;
     match name {
-        "BadField" => Some((SymbolFault::BadField(place), text)),
-        "OutOfRange" => Some((SymbolFault::OutOfRange(place), text)),
-        "Extra" => Some((SymbolFault::Extra(place), text)),
+        "UnknownName" => Some(SymbolFault::UnknownName),
+        "BadField" => Some(SymbolFault::BadField(place)),
+        "OutOfRange" => Some(SymbolFault::OutOfRange(place)),
+        "Extra" => Some(SymbolFault::Extra(place)),
         _ => None,
+    }
+}
+
+fn is_read(line: &str) -> bool {
+    match word_row(line) {
+        Some((word, text)) => read(text.as_bytes()) == Ok(word),
+        None => false,
     }
 }
 
 #[test]
 fn reads_the_text_of_a_word(rt: HostRuntime) {
     for line in READ.lines() {
-        match word_row(line) {
-            Some((word, text)) => assert_eq!(rt; read(text.as_bytes()), Ok(word), "{line}"),
-            None => assert!(rt; false, "{line}"),
-        }
+        holds(&rt, is_read(line), line);
+    }
+}
+
+fn is_refused(line: &str) -> bool {
+    match fault_row(line) {
+        Some((fault, text)) => read(text.as_bytes()) == Err(fault),
+        None => false,
     }
 }
 
 #[test]
 fn answers_the_leftmost_fault(rt: HostRuntime) {
     for line in REFUSED.lines() {
-        match fault_row(line) {
-            Some((fault, text)) => assert_eq!(rt; read(text.as_bytes()), Err(fault), "{line}"),
-            None => assert!(rt; false, "{line}"),
-        }
+        holds(&rt, is_refused(line), line);
     }
+}
+
+fn reads_back(w: u16) -> bool {
+    let mut out = [0u8; 32];
+    let count = print(Word(w), &mut out);
+    count <= 32 && read(&out[..count]) == Ok(Word(w))
+}
+
+fn holds_at(rt: &impl Abort, so: bool, w: u16) {
+    assert!(rt; so, "at {w}");
 }
 
 #[test]
 fn each_canonical_text_reads_back(rt: HostRuntime) {
     for w in 0..=65535u16 {
-        let mut out = [0u8; 32];
-        let count = print(Word(w), &mut out);
-        assert!(rt; count <= 32);
-        assert_eq!(rt; read(&out[..count]), Ok(Word(w)), "at {w}");
+        holds_at(&rt, reads_back(w), w);
     }
 }
 
-fn prints(rt: &impl Abort, word: Word, text: &str) {
+fn prints(word: Word, text: &str) -> bool {
     let mut out = [0u8; 32];
     let count = print(word, &mut out);
-    assert!(rt; count <= 32);
-    assert_eq!(rt; &out[..count], text.as_bytes(), "{text}");
+    count <= 32 && &out[..count] == text.as_bytes()
+}
+
+fn is_printed(line: &str) -> bool {
+    match word_row(line) {
+        Some((word, text)) => prints(word, text),
+        None => false,
+    }
 }
 
 #[test]
 fn prints_the_canonical_text(rt: HostRuntime) {
     for line in PRINTED.lines() {
-        match word_row(line) {
-            Some((word, text)) => prints(&rt, word, text),
-            None => assert!(rt; false, "{line}"),
-        }
+        holds(&rt, is_printed(line), line);
     }
 }
