@@ -1,10 +1,11 @@
 -- The state of a machine, on which all that it does depends.
-use Rattle.std.specs.Prelude.{ℕ, Bool, false, ◌||◌, List, [], Option, None, is_some, slice_set, replicate, if◌then◌else◌}
+use Rattle.std.specs.Prelude.{◌≡◌, ℕ, Bool, false, ◌||◌, List, [], length, Option, None, is_some, slice_set, replicate, if◌then◌else◌}
+use Rattle.unit_trait.specs.declared.kind.Kind.{Kind}
 use Rattle.unit_trait.specs.declared.kind.Kind.TheVariants.{Tti1, Tto1, Qty}
 use Rattle.unit_trait.specs.Calls.{UnitState}
 use Rattle.event_queue.specs.EventList.{Event}
 use Rattle.unit_trait.specs.Kinds.{code_of}
-use Rattle.unit_list.specs.Bus.{unit_at}
+use Rattle.unit_list.specs.Bus.{unit_at, kinds_of}
 use Rattle.unit_list.specs.Reset.{reset_units, reset_events}
 use Rattle.telnet_lines.specs.Line.{LineOf, unconnected}
 use Rattle.unit_files.specs.Attachments.{Held, no_files}
@@ -68,6 +69,10 @@ line_count units = if has_multiplexer units then 65 else if has_terminal units t
 
 abbrev pub lines_for : List UnitState → List (LineOf ℕ)
 lines_for units = replicate (line_count units) (unconnected None)
+
+-- A machine with units of these kinds has just the lines that belong to them, whatever was done with it.
+unfoldable pub HasItsLines : List Kind → List (LineOf ℕ) → Type 0
+HasItsLines kinds lines = (units : List UnitState) → kinds_of units ≡ kinds → length lines ≡ line_count units
 
 -- a new machine with those units: every register 0, memory of 0, no instruction executed, no key taken, no file
 -- attached, no line with a port, and as a reset leaves it

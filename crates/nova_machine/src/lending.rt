@@ -1,4 +1,4 @@
-ghost use Rattle.std.specs.Prelude.{◌≡◌, slice_get, option_map};
+ghost use Rattle.std.specs.Prelude.{◌≡◌, slice_get, option_map, is_some, nat_lt};
 
 use crate::machine::Machine;
 use nova_memory::Memory;
@@ -13,7 +13,7 @@ impl<U: Unit> Machine<U> {
     ghost use Rattle.nova_machine.specs.contracts.machine.Machine.{the_row};
     ghost use Rattle.unit_files.specs.contracts.attached.Attached.{the_row as attached_row};
     ghost use Rattle.nova_machine.specs.Turn.{with_memory};
-    ghost use Rattle.nova_machine.specs.Machine.{attached_files, with_attached_files, with_line};
+    ghost use Rattle.nova_machine.specs.Machine.{attached_files, with_attached_files, with_line, line_count};
 
     /// The machine's memory, to be changed as a person at the console or a loader does. It takes no time.
     pub fn memory_mut(&mut self) -> &mut Memory
@@ -23,19 +23,22 @@ impl<U: Unit> Machine<U> {
         &mut self.processor.memory
     }
 
-    /// The terminal line with that number, where it is there, to be given a port or none as a person at the console
-    /// does. It takes no time.
+    /// The terminal line with that number, to be given a port or none as a person at the console does. It takes no time.
+    /// None exactly for a number that the machine lacks: line 0 is the second teletype's, and lines 1 to 64, behind it,
+    /// are the multiplexer's.
     pub fn line(&mut self, number: u8) -> Option<&mut Line>
         ensures* writes_back { sem 𝓛 (LendsIf (the_row U.row U.Unit) line_row self.entry result
             (with_line self.old number) self.old) }
         ensures value { option_map (λ l. l.now) result ≡ slice_get self.old.lines number }
+        ensures there { is_some result ≡ nat_lt number (line_count self.old.units) }
     {
         self.lines.get_mut(number as usize)
     }
 
-    /// The terminal line with that number, where it is there, as it stands.
+    /// The terminal line with that number, as it stands; none exactly where `line` has none.
     pub fn line_at(&self, number: u8) -> Option<&Line>
-        ensures { option_map (λ l. l.now) result ≡ slice_get self.now.lines number }
+        ensures value { option_map (λ l. l.now) result ≡ slice_get self.now.lines number }
+        ensures there { is_some result ≡ nat_lt number (line_count self.now.units) }
     {
         self.lines.get(number as usize)
     }

@@ -7,7 +7,7 @@ ghost use Rattle.file_traits.specs.State.{Opened};
 ghost use Rattle.unit_files.specs.Open.{AllOpen, Around};
 ghost use Rattle.nova_machine.specs.Core.{AreListed};
 ghost use Rattle.telnet_lines.specs.Line.{unconnected};
-ghost use Rattle.nova_machine.specs.Machine.{lines_for, line_count};
+ghost use Rattle.nova_machine.specs.Machine.{lines_for, line_count, HasItsLines};
 ghost use Rattle.nova_machine.specs.Run.{last_time};
 
 use event_queue::Events;
@@ -103,7 +103,7 @@ impl<U: Unit> Model for Machine<U> {
     ghost use Rattle.unit_list.specs.Bus.{AllFit, kinds_of};
     ghost use Rattle.unit_list.specs.Places.{places_in};
     ghost use Rattle.nova_machine.specs.Core.{AreListed};
-    ghost use Rattle.nova_machine.specs.Machine.{MachineState};
+    ghost use Rattle.nova_machine.specs.Machine.{MachineState, HasItsLines};
     ghost use Rattle.nova_machine.specs.Quiet.{IsQuiet};
     ghost use Rattle.nova_machine.specs.Run.{last_time};
 
@@ -125,7 +125,8 @@ impl<U: Unit> Model for Machine<U> {
 
     ghost invariant = { λ m. (m.time ≤ last_time) × IsQuiet m.quiet m.ints (map U.unit_state m.units.items)
         × AllFit (map U.unit_state m.units.items) × AreListed (kinds_of (map U.unit_state m.units.items)) m.events
-        × (m.places ≡ places_in (kinds_of (map U.unit_state m.units.items))) };
+        × (m.places ≡ places_in (kinds_of (map U.unit_state m.units.items)))
+        × HasItsLines (kinds_of (map U.unit_state m.units.items)) m.lines.items };
 }
 
 impl<U: Unit> Machine<U> {
@@ -269,9 +270,11 @@ impl<U: Unit> Machine<U> {
 }
 
 /// The lines of a machine with those units.
+#[tactic(auto, using(crate::proofs::LinesThere::own_lines))]
 fn lines_of<U: Unit>(alloc: Global, places: &Places, units: &[U]) -> Result<Vec<Line>, AllocError>
     requires { places.now ≡ places_in (kinds_of (map U.unit_state units.now)) }
-    ensures { IfOk result (λ lines. lines.items ≡ lines_for (map U.unit_state units.now)) }
+    ensures lines { IfOk result (λ lines. lines.items ≡ lines_for (map U.unit_state units.now)) }
+    ensures own { IfOk result (λ lines. HasItsLines (kinds_of (map U.unit_state units.now)) lines.items) }
 {
     new_lines(alloc, line_count(places, units))
 }

@@ -11,4 +11,4 @@ invariant_of-self g c =
     let there : IsTrue (is_some (unit_at (code_of unit.kind) units)) = search rules in
     let was = c.self.invariant in
     let listed = listed-asked units unit c.args.remaining c.self.inside.events c.activate.new.self there c.activate.ensures.activated was.3 in
-    (was.0, was.1, was.2, listed, was.4)
+    (was.0, was.1, was.2, listed, was.4, was.5)

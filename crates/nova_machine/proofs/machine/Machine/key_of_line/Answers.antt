@@ -5,10 +5,12 @@ use Rattle.telnet_lines.specs.Line.{LineOf}
 use Rattle.telnet_lines.specs.Joined.{seen_line}
 use Rattle.unit_trait.specs.declared.calls.Got.{Got}
 use Rattle.unit_trait.specs.declared.calls.Want.TheVariants as want
+use Rattle.unit_list.specs.Bus.{kinds_of}
 use Rattle.nova_machine.specs.Machine.{MachineState}
 use Rattle.nova_machine.specs.OnLines.{lined}
 use Rattle.nova_machine.specs.LineChanges.{AreLinesTold, LinesGoOn, DoneOnLine}
 use Rattle.nova_machine.proofs.LineSteps.{StepsAt, lines-stay, one-goes-on, done-no-key, done-poll}
+use Rattle.nova_machine.proofs.LinesThere.{set-has}
 use Rattle.nova_machine.proofs.machine.Machine.key_of_line.Goals as goal
 
 pub returns-then-number-len-clause-lines : goal.returns-then-number-len-clause-lines
@@ -69,3 +71,8 @@ returns-clause-told g c = λ told whole first.
     let T : ℕ → Type 0 = λ t. DoneOnLine (lined t (want.LineKey n) (map (seen_line old) ls) (ahead_of old.told whole)) (Some c.got_of.result) whole old new (slice_set ls n after) in
     let P : List (LineOf ℕ) → Type 0 = λ x. DoneOnLine (lined time (want.LineKey n) (map (seen_line old) x) (ahead_of old.told whole)) (Some c.got_of.result) whole old new (slice_set ls n after) in
     subst P is (subst T now (subst R (sym c.got_of.ensures.got) done))
+
+pub invariant_of-self : goal.invariant_of-self
+invariant_of-self g c =
+    let was = c.self.invariant in
+    (was.0, was.1, was.2, was.3, was.4, set-has (kinds_of (map g.U.Unit.unit_state c.self.inside.units.items)) c.self.inside.lines.items c.args.number c.poll-key.new.self was.5)

@@ -5,10 +5,12 @@ use Rattle.telnet_lines.specs.Line.{LineOf}
 use Rattle.telnet_lines.specs.Joined.{seen_line}
 use Rattle.unit_trait.specs.declared.calls.Got.{Got}
 use Rattle.unit_trait.specs.declared.calls.Want.TheVariants as want
+use Rattle.unit_list.specs.Bus.{kinds_of}
 use Rattle.nova_machine.specs.Machine.{MachineState}
 use Rattle.nova_machine.specs.OnLines.{lined, put_line, put_got}
 use Rattle.nova_machine.specs.LineChanges.{LinesGoOn, DoneOnLine}
 use Rattle.nova_machine.proofs.LineSteps.{lines-stay, one-goes-on, put-steps, done-no-put, done-put}
+use Rattle.nova_machine.proofs.LinesThere.{set-has}
 use Rattle.nova_machine.proofs.machine.Machine.put_on_line.Goals as goal
 
 pub returns-then-number-len-clause-lines : goal.returns-then-number-len-clause-lines
@@ -45,3 +47,8 @@ returns-clause-told g c = λ s whole.
     let R : Got → Type 0 = λ r. DoneOnLine (lined time (want.LinePut n byte) (map (seen_line s) ls) (ahead_of s.told whole)) (Some r) whole s s (slice_set ls n c.put_on.new.line) in
     let P : List (LineOf ℕ) → Type 0 = λ x. DoneOnLine (lined time (want.LinePut n byte) (map (seen_line s) x) (ahead_of s.told whole)) (Some c.put_on.result) whole s s (slice_set ls n c.put_on.new.line) in
     subst P is (subst R (sym c.put_on.ensures.got) (subst L (sym c.put_on.ensures.line) (done-put time n byte s ls line whole there)))
+
+pub invariant_of-self : goal.invariant_of-self
+invariant_of-self g c =
+    let was = c.self.invariant in
+    (was.0, was.1, was.2, was.3, was.4, set-has (kinds_of (map g.U.Unit.unit_state c.self.inside.units.items)) c.self.inside.lines.items c.args.number c.put_on.new.line was.5)
