@@ -12,3 +12,4 @@ pub mod ValidMachines
 pub mod ValidWatch
 pub mod WholeSays
 pub mod SetLemmas
+pub mod ScriptLemmas

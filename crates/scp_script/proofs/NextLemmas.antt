@@ -29,7 +29,7 @@ use Rattle.command_session.specs.Answers.{CanAnswer, of_unit}
 use Rattle.command_session.specs.RunEffects.{reset_reply}
 use Rattle.plain_commands.specs.ListEffects.{lacks_device, examine_after, examine_reply, handed, deposit_after, deposit_reply}
 use Rattle.command_session.specs.LineEffects.{is_terminal, terminal_line, with_port, detach_port_reply, show_line}
-use Rattle.command_session.specs.FileEffects.{lacks_unit}
+use Rattle.command_session.specs.FileEffects.{lacks_unit, detach_one_or_all}
 use Rattle.command_session.specs.FileEffects.{detach_answer, detach_reply}
 use Rattle.expect_actions.specs.Expects.{most_expects}
 use Rattle.expect_actions.specs.Sends.{most_sends}
@@ -153,6 +153,9 @@ assert-none : (live : Live) (test : Test) → IsPlain (assert_reply live test).a
 unfolding assert_reply
 assert-none live test = tested-none (lacks_device live.machine test.device) (tested live.machine test)
 
+pub detach-plain : (notes : List CommandNote) (live : Live) (unit : UnitName) → IsPlain (detach_one_or_all notes live (Some unit)).answer
+detach-plain notes live unit = none-if (is_terminal unit) _ _ (detach_port-none live) (detach-none notes live unit)
+
 -- a command that works on no file and no line
 pub untold-plain : (limit : ℕ) (notes : List CommandNote) (live : Live) (r : Request) → (nature r).telling ≡ Nothing → IsPlain (effect limit notes live r).answer
 unfolding effect
@@ -173,7 +176,7 @@ untold-plain limit notes live request.NoSend told = no_send-none live
 untold-plain limit notes live (request.Attach option unit name) told = absurd (cc told)
 untold-plain limit notes live (request.AttachPort kind port) told = absurd (cc told)
 untold-plain limit notes live (request.Detach None) told = absurd (cc told)
-untold-plain limit notes live (request.Detach (Some unit)) told = none-if (is_terminal unit) _ _ (detach_port-none live) (detach-none notes live unit)
+untold-plain limit notes live (request.Detach (Some unit)) told = detach-plain notes live unit
 untold-plain limit notes live (request.SetSize k) told = set_size-none live k
 untold-plain limit notes live (request.Disconnect kind) told = absurd (cc told)
 untold-plain limit notes live (request.Show subject) told = show-none live subject

@@ -3,3 +3,4 @@ pub mod ValidSessions
 pub mod ResumptionLemmas
 pub mod LawLemmas
 pub mod CoreLemmas
+pub mod RoomLemmas

@@ -32,7 +32,7 @@ use Rattle.scp_script.specs.declared.progress.Finish.{Finish}
 use Rattle.scp_script.specs.declared.progress.Finish.TheVariants.{OutOfMemory}
 use Rattle.scp_script.specs.Perform.{IsSession, IsPerformed}
 use Rattle.script_laws.specs.Valid.{ValidTexts, ValidSession, SessionsStayValid}
-use Rattle.scp_script.proofs.RoomLemmas.{RoomFor, room-effect}
+use Rattle.script_laws.proofs.RoomLemmas.{RoomFor, room-effect}
 use Rattle.script_laws.proofs.LawLemmas.{lines-are-consumed}
 use Rattle.script_laws.proofs.ValidTexts.{IsValidAsked, asked-valid, checked-valid, ValidScripts, open-valid, line-bytes, past-valid, texts-valid, settled-gives, settled-room}
 

@@ -32,7 +32,7 @@ use Rattle.command_laws.specs.Valid.{GivesBytes}
 use Rattle.session_texts.specs.Scripts.{Script, most_scripts, rest_of, still_open, text_of_line, past_line, begun, arguments_of, checked, or_no_label, label_of, label_in, jumped_to, found_answer, settled_answer, behind_failure, is_assertion, scripts_behind}
 use Rattle.session_texts.specs.Actions.{Texts, text_of_stop, overflows, put_first, behind_refusal, actions_behind, texts_behind}
 use Rattle.script_laws.specs.Valid.{ValidScript, ValidTexts}
-use Rattle.scp_script.proofs.RoomLemmas.{RoomFor}
+use Rattle.script_laws.proofs.RoomLemmas.{RoomFor}
 
 -- ---- what a line asks for
 
