@@ -2,8 +2,6 @@
 use Rattle.std.proofs.Common.{◌≡◌, ◌⊎◌, inl, inr, ℕ, ◌≤◌, Bool, true, false, List, sym, ◌∙◌, subst, arith, Option, Some, None, IsSome, Err}
 use Rattle.file_traits.specs.State.{FileState}
 use Rattle.file_commands.specs.declared.note.FaultNote.{FaultNote}
-use Rattle.file_commands.specs.declared.note.Subject.TheVariants as subject
-use Rattle.whole_files.specs.declared.whole.WholeFault.TheVariants as whole
 use Rattle.nova_machine.specs.Machine.{MachineState}
 use Rattle.scp_script.specs.declared.progress.Finish.{Finish}
 use Rattle.scp_script.specs.declared.progress.Finish.TheVariants as finish

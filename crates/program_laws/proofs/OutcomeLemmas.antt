@@ -1,5 +1,5 @@
 -- The laws of cutting a session short, at the outcome.
-use Rattle.std.proofs.Common.{◌≡◌, ◌≢◌, ℕ, ◌+◌, ◌-◌, ◌≤◌, List, ◌++◌}
+use Rattle.std.proofs.Common.{◌≡◌, ◌≢◌, ℕ, ◌≤◌, List, ◌++◌}
 use Rattle.observations.specs.Observations.{text_of, Trace}
 use Rattle.observations.proofs.CutLemmas.{more-room, sent-more-room, first-part}
 use Rattle.nova_top.specs.Outside.{Outside, Left, trace_of, outcome, sent_by}

@@ -1,5 +1,5 @@
 -- A program that restores a session goes on as the program does that has saved it.
-use Rattle.std.proofs.Common.{ℕ, suc, ◌+◌, List, ◌++◌, drop, ap, sym, ◌∙◌}
+use Rattle.std.proofs.Common.{ℕ, suc, List, ◌++◌, drop, ap, sym, ◌∙◌}
 use Rattle.observations.specs.Observations.{Observation, Trace, text_of, reads_of, sent_of}
 use Rattle.host_lines.specs.Told.{ahead_of}
 use Rattle.nova_machine.specs.LineChanges.{heard_with}
@@ -7,7 +7,7 @@ use Rattle.scp_script.specs.Session.{State, Session, asking, trace}
 use Rattle.script_laws.specs.Resumption.{resumed, behind_save, SavedAndRestored}
 use Rattle.script_laws.proofs.ValidSessions.{sessions-stay-valid}
 use Rattle.script_laws.proofs.ResumptionLemmas.{saves-come, traces-saved, saved-and-restored-go-on-alike}
-use Rattle.nova_top.specs.Outside.{left_by, opening, outcome}
+use Rattle.nova_top.specs.Outside.{left_by, opening}
 use Rattle.nova_top.specs.Resumption.{Reaches}
 use Rattle.program_laws.specs.Resumption.{Ran, IsRun, EndAlike, RestoredProgramsGoOn}
 use Rattle.nova_top.proofs.ResumptionLemmas.{ends-behind, begins-valid, resumes-saved}

@@ -4,15 +4,12 @@ use Rattle.observations.specs.Observations.{StandsAt, Trace}
 use Rattle.observations.proofs.CutLemmas.{cut-state}
 use Rattle.observations.proofs.MadeLemmas.{stands-mapped}
 use Rattle.file_traits.specs.Lists.{NamedBytes}
-use Rattle.file_commands.specs.declared.note.Subject.TheVariants as subject
 use Rattle.file_commands.specs.Notes.{Note}
-use Rattle.whole_files.specs.Whole as whole
 use Rattle.host_lines.specs.Traffic.{Ahead}
 use Rattle.command_laws.specs.Valid.{ValidLive}
 use Rattle.scp_script.specs.Session.{State, trace}
 use Rattle.script_laws.proofs.ValidSessions.{sessions-stay-valid}
 use Rattle.command_words.specs.Words.{options_of}
-use Rattle.program_start.specs.Start as starting
 use Rattle.nova_top.specs.Outside.{Outside, Left, left_by, opening, trace_from, whole_trace, trace_of, outcome}
 use Rattle.program_start.specs.Start.{Start, Refused, Begins, start_of}
 use Rattle.nova_top.specs.Valid.{AreHandedBytes}
