@@ -15,6 +15,7 @@ use Rattle.file_commands.specs.Possible.{MayHaveWritten}
 use Rattle.whole_files.specs.Claims.{raised_by}
 use Rattle.file_commands.specs.Counts.{is_of, one_if, openings_noted, RoseBy, AreCounted, AreExact}
 use Rattle.file_commands.proofs.Causes.{rose-one, same-rose}
+use Rattle.file_commands.proofs.Exact.{exact-when}
 use Rattle.file_commands.specs.declared.stamp.Stamp.{Stamp}
 use Rattle.file_commands.specs.Kept.{fault_note}
 
@@ -46,13 +47,13 @@ of-file false file held before now is same other = other (λ e. grind (arith, na
 
 pub exact-fault : (gives : Bool) (stamp : Stamp) (f : UnitFault) (slots : List (Option Held)) (old new : FileState) → IsFaultOf f f.unit slots old new
     → AreExact gives (fault_note stamp f ∷ []) old new
-exact-fault gives stamp f slots old new cause = record {
-  files = λ file none.
-      subst (λ (o : Option FileId). new.faults file ≡ raised_by (one_if (is_of file o) + 0) (old.faults file)) (sym cause.file_is)
-      (of-file (cause.id.0 == file) file cause.held.file (old.faults file) (new.faults file) (ap (λ (n : ℕ). n == file) (sym cause.id_is))
-      (λ e. subst (λ (n : ℕ). new.faults n ≡ raised (old.faults n)) (sym e) cause.rose) (cause.others file));
-  ids = let same = cause.ids in omega (arith, same);
-}
+exact-fault gives stamp f slots old new cause =
+    exact-when gives (fault_note stamp f ∷ []) old new
+    (λ file.
+    subst (λ (o : Option FileId). new.faults file ≡ raised_by (one_if (is_of file o) + 0) (old.faults file)) (sym cause.file_is)
+    (of-file (cause.id.0 == file) file cause.held.file (old.faults file) (new.faults file) (ap (λ (n : ℕ). n == file) (sym cause.id_is))
+    (λ e. subst (λ (n : ℕ). new.faults n ≡ raised (old.faults n)) (sym e) cause.rose) (cause.others file)))
+    (let same = cause.ids in omega (arith, same))
 
 -- openings of which none failed, so that none is noted, or their count stands at its end
 raised-none : (n count : ℕ) → 2 ^ 64 - 1 ≤ count → raised_by n count ≡ count

@@ -212,8 +212,8 @@ attaches_file (Restore force name) = true
 attaches_file request = false
 
 -- The notes that were kept are those of calls that failed just now: they have the command's number and the time at which
--- the machine stands, there is just one for each such call, but for those of files that were given back, and they are why
--- a file was refused.
+-- the machine stands, there is just one for each such call, but for the one closing of each file that was given back, and
+-- they are why a file was refused.
 pub record KeepsAs (attaches : Bool) (number time : ℕ) (tells : Bool) (answer : Answer) (notes notes' : List FaultNote) (old new : FileState) : Type 0 where
   pub kept : List FaultNote
   pub added : notes' ≡ notes ++ kept

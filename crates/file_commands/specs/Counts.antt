@@ -4,7 +4,7 @@ use Rattle.std.specs.List.{AllByRecursion}
 use Rattle.file_traits.specs.declared.files.FileId.{FileId}
 use Rattle.file_traits.specs.State.{FileState}
 use Rattle.whole_files.specs.Claims.{raised_by}
-use Rattle.unit_files.specs.Causes.{IsNewId}
+use Rattle.unit_files.specs.Causes.{IsNewId, AtMostOnceMore}
 use Rattle.file_commands.specs.declared.note.FaultNote.{FaultNote}
 use Rattle.file_commands.specs.Possible.{IsPossible}
 
@@ -49,7 +49,9 @@ pub record AreAll (notes : List FaultNote) (old new : FileState) : Type 0 where
   pub ids : new.given ≡ old.given
 
 -- Each count of a file has risen by just as many as the notes of that file are. A refusal may give files back: it closes such
--- as were opened in that very call, and these closings have no note.
+-- as were opened in that very call, each of them once, and these closings have no note. So the count of any file has risen
+-- by one more than it has notes at most.
 pub record AreExact (gives_back : Bool) (notes : List FaultNote) (old new : FileState) : Type 0 where
   pub files : (file : ℕ) → (IsTrue gives_back → IsNewId old new file → ⊥) → new.faults file ≡ raised_by (noted file notes) (old.faults file)
+  pub most : (file : ℕ) → AtMostOnceMore (raised_by (noted file notes) (old.faults file)) (new.faults file)
   pub ids : old.given ≤ new.given

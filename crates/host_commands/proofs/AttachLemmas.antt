@@ -7,7 +7,8 @@ use Rattle.file_traits.specs.Lists.{NamedBytes, bytes_of}
 use Rattle.file_traits.specs.State.{FileState}
 use Rattle.file_traits.specs.declared.files.FileId.{FileId}
 use Rattle.whole_files.specs.Claims.{raised_by}
-use Rattle.unit_files.specs.Causes.{IsNewId, AttachCause}
+use Rattle.unit_files.specs.Causes.{AtMostOnceMore, IsNewId, IsRefusedFile, AttachCause}
+use Rattle.std.proofs.lemmas.Bool.{eqb-true}
 use Rattle.std.proofs.lemmas.Bool.Decides.{nat_tests}
 use Rattle.host_lines.specs.Traffic.{Answer as LineAnswer}
 use Rattle.host_lines.specs.State.{LineState}
@@ -338,6 +339,49 @@ attach-exact stamp tells unit (Err (attach.Failed f)) old new cause file none = 
     by SetLength is = of-file (λ opening. absurd (let both : SetLength ≡ Opening = sym is ∙ opening in cc))
 attach-exact stamp tells unit (Err attach.OutOfMemory) old new cause file none = ap (λ (f : ℕ → ℕ). f file) cause
 
+-- a file that was opened and is refused has one call without a note at most, its closing
+refused-once : (file id failed : ℕ) (old new : FileState) (b : Bool) → (id == file) ≡ b → AtMostOnceMore (raised_by failed (old.faults id)) (new.faults id)
+    → ((other : ℕ) → (other ≡ id → ⊥) → new.faults other ≡ old.faults other) → AtMostOnceMore (raised_by (if b then failed else 0) (old.faults file)) (new.faults file)
+refused-once file id failed old new true is count others =
+    subst (λ (n : ℕ). AtMostOnceMore (raised_by failed (old.faults n)) (new.faults n)) (eqb-true id file is) count
+refused-once file id failed old new false is count others = inl (others file (λ same. let e = is in grind (arith, nat_tests)))
+
+attach-once : (stamp : Stamp) (tells : Bool) (unit : UnitName) (r : Result ℕ AttachFault) (old new : FileState) → AttachCause tells r unit old new
+    → (file : ℕ) → AtMostOnceMore (raised_by (noted file (kept_of stamp (fault_of_attach r))) (old.faults file)) (new.faults file)
+attach-once stamp tells unit (Ok count) old new cause file = inl (ap (λ (f : ℕ → ℕ). f file) cause.0)
+attach-once stamp tells unit (Err attach.AlreadyAttached) old new cause file = inl (ap (λ (f : ℕ → ℕ). f file) cause.counts)
+attach-once stamp tells unit (Err attach.ReadOnly) old new cause file = inl (ap (λ (f : ℕ → ℕ). f file) cause.counts)
+attach-once stamp tells unit (Err attach.NoFile) old new cause file = inl (ap (λ (f : ℕ → ℕ). f file) cause.0)
+attach-once stamp tells unit (Err attach.TooLong) old new cause file = by (cause.0.0.0 == file) refl
+  where
+    by : (b : Bool) → (cause.0.0.0 == file) ≡ b → AtMostOnceMore (old.faults file) (new.faults file)
+    by true is = refused-once file cause.0.0.0 0 old new true is cause.0.1.count cause.0.1.others
+    by false is = refused-once file cause.0.0.0 0 old new false is cause.0.1.count cause.0.1.others
+attach-once stamp tells unit (Err (attach.Failed f)) old new cause file = by f.call refl
+  where
+    of-file : (f.call ≡ Opening → ⊥) → AtMostOnceMore (raised_by (one_if (is_of file f.file) + 0) (old.faults file)) (new.faults file)
+    of-file other =
+        let o = cause.other other in
+        subst (λ (x : Option FileId). AtMostOnceMore (raised_by (one_if (is_of file x) + 0) (old.faults file)) (new.faults file)) (sym o.1) (at o.0 o.2)
+      where
+        at : (id : FileId) → IsRefusedFile id 1 old new → AtMostOnceMore (raised_by (one_if (id.0 == file) + 0) (old.faults file)) (new.faults file)
+        at id its = here (id.0 == file) refl
+          where
+            here : (c : Bool) → (id.0 == file) ≡ c → AtMostOnceMore (raised_by (one_if c + 0) (old.faults file)) (new.faults file)
+            here true is = refused-once file id.0 1 old new true is its.count its.others
+            here false is = refused-once file id.0 1 old new false is its.count its.others
+
+    by : (c : FileCall) → f.call ≡ c → AtMostOnceMore (raised_by (one_if (is_of file f.file) + 0) (old.faults file)) (new.faults file)
+    by Opening is =
+        let o = cause.opening is in
+        subst (λ (x : Option FileId). AtMostOnceMore (raised_by (one_if (is_of file x) + 0) (old.faults file)) (new.faults file)) (sym o.0) (inl (ap (λ (g : ℕ → ℕ). g file) o.2))
+    by Closing is = of-file (λ opening. absurd (let both : Closing ≡ Opening = sym is ∙ opening in cc))
+    by Length is = of-file (λ opening. absurd (let both : Length ≡ Opening = sym is ∙ opening in cc))
+    by Read is = of-file (λ opening. absurd (let both : Read ≡ Opening = sym is ∙ opening in cc))
+    by Write is = of-file (λ opening. absurd (let both : Write ≡ Opening = sym is ∙ opening in cc))
+    by SetLength is = of-file (λ opening. absurd (let both : SetLength ≡ Opening = sym is ∙ opening in cc))
+attach-once stamp tells unit (Err attach.OutOfMemory) old new cause file = inl (ap (λ (f : ℕ → ℕ). f file) cause)
+
 pub attach-keeps : (number time : ℕ) (stamp : Stamp) (tells : Bool) (unit : UnitName) (r : Result ℕ AttachFault) (answer : Answer) (notes notes' : List FaultNote) (old new : FileState)
     → stamp ≡ record { command = number; time = time } → answer ≡ attach_result r → notes' ≡ notes ++ kept_of stamp (fault_of_attach r) → AreCounted (kept_of stamp (fault_of_attach r)) old new
     → IfSome (fault_of_attach r) (IsAttachFault unit) → MissingCause tells r old new → AttachCause tells r unit old new → old.given ≤ new.given
@@ -352,7 +396,7 @@ attach-keeps number time stamp tells unit r answer notes notes' old new stamped 
       counted = subst (λ (s : Stamp). AreCounted (kept_of s (fault_of_attach r)) old new) stamped counted;
       exact =
           subst (λ (a : Answer). AreExact (gives_back a) (kept_of own (fault_of_attach r)) old new) (sym answered)
-          (record { files = λ file none. attach-exact own tells unit r old new counts file none; ids = ids });
+          (record { files = attach-exact own tells unit r old new counts; most = attach-once own tells unit r old new counts; ids = ids });
       openings = tt;
       cause = subst (λ (a : Answer). FileCause own tells a (kept_of own (fault_of_attach r)) old new) (sym answered) (attach-cause own tells unit r old new of_unit missing);
     }

@@ -5,3 +5,4 @@ pub mod ValidFiles
 pub mod GivingBackLemmas
 pub mod RestoreCounts
 pub mod SavingLaws
+pub mod ClosingOnce

@@ -42,7 +42,7 @@ held-there slots unit there = by (held_at slots unit) refl
         let e = subst (λ (a : Option Attachment). IsTrue (is_some a)) none there in absurd cc
     by (Some h) is = (h, is)
 
-none-held : (slots : List (Option Held)) (unit : UnitName) (h : Held) → attachment_at (attachments_of slots) unit ≡ None
+pub none-held : (slots : List (Option Held)) (unit : UnitName) (h : Held) → attachment_at (attachments_of slots) unit ≡ None
     → held_at slots unit ≡ Some h → ⊥
 none-held slots unit h none there =
     let some : attachment_at (attachments_of slots) unit ≡ Some h.attachment =

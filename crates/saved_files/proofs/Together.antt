@@ -289,7 +289,7 @@ none-in (f ∷ fs) e = absurd (omega (arith, e))
 
 -- ---- where nothing is attached
 
-none-at : (n place : ℕ) → get_or (attachments_of (replicate n None)) place None ≡ None
+pub none-at : (n place : ℕ) → get_or (attachments_of (replicate n None)) place None ≡ None
 none-at zero place = refl
 none-at (suc n) zero = refl
 none-at (suc n) (suc place) = none-at n place

@@ -1,13 +1,15 @@
 -- A failed call that is answered where the files of a saved session are attached has raised a count in this very call:
 -- that of its file, which was opened in it, or of openings. The closing of a file that is given back is told by its count
 -- alone.
-use Rattle.std.specs.Prelude.{◌≡◌, ◌⊎◌, ◌<◌, Bool, false, IsTrue, Some, None, Result, Ok, Err}
-use Rattle.fault_counts.specs.Faults.{Rose}
+use Rattle.std.specs.Prelude.{◌≡◌, ◌⊎◌, ℕ, ◌<◌, ◌==◌, Bool, false, IsTrue, List, Option, Some, None, Result, Ok, Err, if◌then◌else◌}
+use Rattle.fault_counts.specs.Faults.{raised, Rose}
 use Rattle.file_traits.specs.declared.files.FileId.{FileId}
 use Rattle.file_traits.specs.declared.files.FileCall.TheVariants.{Opening, Length, Read}
 use Rattle.file_traits.specs.State.{FileState}
 use Rattle.unit_files.specs.declared.faults.UnitFault.{UnitFault}
-use Rattle.unit_files.specs.Causes.{IsNewId}
+use Rattle.unit_trait.specs.declared.kind.UnitName.{UnitName}
+use Rattle.unit_files.specs.Attachments.{Held, held_at}
+use Rattle.unit_files.specs.Causes.{AtMostOnceMore, IsNewId}
 use Rattle.saved_files.specs.declared.file_faults.RestoreFault.{RestoreFault}
 use Rattle.saved_files.specs.declared.file_faults.RestoreFault.TheVariants as fault
 
@@ -50,6 +52,34 @@ abbrev pub SessionCause : Bool → Result (Unit {0}) RestoreFault → FileState 
 SessionCause tells (Err fault.Port) old new = OpeningsStand tells old new
 SessionCause tells (Ok u) old new = RestoreCause tells (Ok u) old new
 SessionCause tells (Err f) old new = RestoreCause tells (Err f) old new
+
+-- whether a call was one on that file
+abbrev pub is_on : ℕ → Option FileId → Bool
+is_on file None = false
+is_on file (Some id) = id.0 == file
+
+-- the count of a file behind an answer, which may be of a failed call on it
+abbrev pub count_behind : Result (Unit {0}) RestoreFault → ℕ → ℕ → ℕ
+count_behind (Err (fault.Failed f)) file count = if is_on file f.file then raised count else count
+count_behind answer file count = count
+
+-- Each file's count has risen by the failed call that is answered, and by one more at most: what was opened is closed
+-- once, and the answer says nothing of that closing.
+abbrev pub ClosesOnce : Result (Unit {0}) RestoreFault → FileState → FileState → Type 0
+ClosesOnce answer old new =
+    (file : ℕ) → AtMostOnceMore (count_behind answer file (old.faults file)) (new.faults file)
+
+-- The same where files are attached behind it: those are not closed, and no call on them but the one that is answered
+-- has failed.
+pub record ClosesOthers (answer : Result (Unit {0}) RestoreFault) (slots : List (Option Held)) (old new : FileState) : Type 0
+  where
+    pub files : ClosesOnce answer old new
+    pub held : (unit : UnitName) (h : Held) → held_at slots unit ≡ Some h
+        → new.faults h.file ≡ count_behind answer h.file (old.faults h.file)
+
+-- the numbers of attached files were given
+abbrev pub HaveGivenNumbers : List (Option Held) → FileState → Type 0
+HaveGivenNumbers slots s = (unit : UnitName) (h : Held) → held_at slots unit ≡ Some h → h.file < s.given
 
 -- a changed file is found only where files are compared
 abbrev pub IsCompared : Bool → Result (Unit {0}) RestoreFault → Type 0

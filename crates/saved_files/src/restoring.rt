@@ -1,5 +1,5 @@
 // The files that a saved session names: each is attached and compared, all of them or none.
-ghost use Rattle.std.specs.Prelude.{◌≡◌, ◌≢◌, List, IsTrue, OnOk, OnErr, IfErr, false, true, Some, None, is_some};
+ghost use Rattle.std.specs.Prelude.{◌≡◌, ◌≢◌, List, IsTrue, Ok, OnOk, OnErr, IfErr, false, true, Some, None, is_some};
 ghost use Rattle.std.specs.Prelude.{Bool, if◌then◌else◌};
 ghost use Rattle.std.specs.List.{AllByRecursion};
 ghost use Rattle.file_traits.specs.Lists.{bytes_of};
@@ -17,7 +17,7 @@ ghost use Rattle.saved_files.specs.Restoring.{files_in, unit_of, is_only_read, m
 ghost use Rattle.saved_files.specs.Restoring.{copy_of, first_refused, claim_in, Says, IsOfThese};
 ghost use Rattle.saved_files.specs.RestoringOne.{CanAttach, IsFree, AreApart, IsClean, IsAsRead, IsOf, failure_of, SaysOne};
 ghost use Rattle.saved_files.specs.RestoringOne.{Attaches, Compares, CompareCalls, CompareCause, OnlyItsCount};
-ghost use Rattle.saved_files.specs.RestoreCauses.{IsCompared, RestoreCause};
+ghost use Rattle.saved_files.specs.RestoreCauses.{ClosesOnce, ClosesOthers, HaveGivenNumbers, IsCompared, RestoreCause};
 ghost use Rattle.saved_session.specs.Valid.{AreFiles};
 
 use crate::file_faults::RestoreFault;
@@ -63,7 +63,10 @@ fn give_back<F: Files>(attached: &mut Attached, unit: UnitName, files: &mut F)
         → Around attached.new.slots base (F.state files.new).opened }
     ensures kept { OnlyKept attached.old.slots attached.new.slots }
     ensures count { OnlyItsCount attached.old.slots unit (F.state files.old) (F.state files.new) }
+    ensures once { ClosesOthers (Ok tt) attached.new.slots (F.state files.old) (F.state files.new) }
 {
+    // No other unit has this file.
+    prove!(attached.file_of(unit).is_some());
     let _closing = attached.detach(unit, files);
 }
 
@@ -96,6 +99,8 @@ fn attach_file<F: Files>(
     ensures from { AreFrom attached.old.slots attached.new.slots (F.state files.old) (F.state files.new) }
     ensures counts { OnlyNewCounts (F.state files.old) (F.state files.new) }
     ensures cause { RestoreCause F.tells result (F.state files.old) (F.state files.new) }
+    ensures once { HaveGivenNumbers attached.old.slots (F.state files.old)
+        → ClosesOthers result attached.new.slots (F.state files.old) (F.state files.new) }
     ensures compared { (force : Bool) → IsCompared force result }
 {
     let unit = unit_of(file);
@@ -176,6 +181,8 @@ fn attach_one<F: Files>(
     ensures from { AreFrom attached.old.slots attached.new.slots (F.state files.old) (F.state files.new) }
     ensures counts { OnlyNewCounts (F.state files.old) (F.state files.new) }
     ensures cause { RestoreCause F.tells result (F.state files.old) (F.state files.new) }
+    ensures once { HaveGivenNumbers attached.old.slots (F.state files.old)
+        → ClosesOthers result attached.new.slots (F.state files.old) (F.state files.new) }
     ensures compared { IsCompared force result }
 {
     attach_file(alloc, file, attached, files)?;
@@ -226,6 +233,8 @@ fn attach_each<F: Files>(
     ensures from { AreFrom attached.old.slots attached.new.slots (F.state files.old) (F.state files.new) }
     ensures counts { OnlyNewCounts (F.state files.old) (F.state files.new) }
     ensures cause { RestoreCause F.tells result (F.state files.old) (F.state files.new) }
+    ensures once { HaveGivenNumbers attached.old.slots (F.state files.old)
+        → ClosesOthers result attached.new.slots (F.state files.old) (F.state files.new) }
     ensures compared { IsCompared force result }
 {
     match saved.split_first() {
@@ -275,6 +284,7 @@ pub fn attach_all<F: Files>(
     ensures from { AreFrom attached.old.slots attached.new.slots (F.state files.old) (F.state files.new) }
     ensures counts { OnlyNewCounts (F.state files.old) (F.state files.new) }
     ensures cause { RestoreCause F.tells result (F.state files.old) (F.state files.new) }
+    ensures once { ClosesOnce result (F.state files.old) (F.state files.new) }
     ensures compared { IsCompared force result }
 {
     attach_each(alloc, saved, force, attached, files)
@@ -296,6 +306,7 @@ pub fn give_back_all<F: Files>(saved: &[SavedFile], attached: &mut Attached, fil
         → Around attached.new.slots base (F.state files.new).opened }
     ensures kept { OnlyKept attached.old.slots attached.new.slots }
     ensures counts { OnlyTheirCounts attached.old.slots (files_in saved.now) (F.state files.old) (F.state files.new) }
+    ensures once { ClosesOthers (Ok tt) attached.new.slots (F.state files.old) (F.state files.new) }
 {
     match saved.split_first() {
         None => (),

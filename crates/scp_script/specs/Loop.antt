@@ -253,9 +253,9 @@ pub record Stepped (old : List Note → Session) (p : Progress) (new : List Note
   pub first : (more : List Note) → MayCome p (new []).spent (new []).live more → MayFollow (old []).spent (old []).live (own ++ more)
   pub goes : (more : List Note) → MayCome p (new []).spent (new []).live more → Progresses (old (own ++ more)) p (new more) before after
 
--- The notes that were kept are those of calls that failed: for each file there are just as many as its count rose, but where
--- files may be given back for such as were opened in between, whose closings then have none; and of openings there are at
--- most as many.
+-- The notes that were kept are those of calls that failed: for each file there are just as many as its count rose, or one
+-- less, and that only where files may be given back, for one that was opened in between, whose closing then has none; and of
+-- openings there are at most as many.
 pub record KeptAs (gives_back : Bool) (notes notes' : List FaultNote) (old new : FileState) : Type 0 where
   pub kept : List FaultNote
   pub added : notes' ≡ notes ++ kept

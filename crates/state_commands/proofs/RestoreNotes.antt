@@ -1,17 +1,18 @@
 -- The notes that RESTORE keeps: of the reading of its file, and of a call on a unit's file.
 use Rattle.std.proofs.Common.{◌≡◌, ◌⊎◌, inl, inr, ℕ, ◌+◌, ◌<◌, ◌≤◌, ◌==◌, nat_lt, Bool, true, false, List, [], ◌∷◌, ◌++◌, length, Option, Some, None, is_some, not, ◌&&◌, Result, Ok, Err, refl, ap, sym, ◌∙◌, subst, append-nil, append_assoc, arith}
+use Rattle.std.specs.Prelude.{if◌then◌else◌}
 use Rattle.std.specs.List.{AllByRecursion}
 use Rattle.std.specs.Global.{Vec}
 use Rattle.std.proofs.lemmas.Bool.{eqb-true}
 use Rattle.std.proofs.lemmas.List.{length-append}
-use Rattle.fault_counts.specs.Faults.{Rose}
+use Rattle.fault_counts.specs.Faults.{raised, Rose}
 use Rattle.file_traits.specs.declared.files.FileCall.{FileCall}
 use Rattle.file_traits.specs.declared.files.FileCall.TheVariants as call
 use Rattle.file_traits.specs.declared.files.FileId.{FileId}
 use Rattle.file_traits.specs.State.{FileState}
 use Rattle.unit_files.specs.declared.faults.UnitFault.{UnitFault}
 use Rattle.unit_files.specs.Attachments.{Held}
-use Rattle.unit_files.specs.Causes.{OnlyNewCounts, AreFrom, IsNewId}
+use Rattle.unit_files.specs.Causes.{AtMostOnceMore, OnlyNewCounts, AreFrom, IsNewId}
 use Rattle.file_traits.specs.FileCalls.{UnusedIdsAreUncounted}
 use Rattle.file_commands.specs.declared.note.Subject.TheVariants as subject
 use Rattle.file_commands.specs.declared.note.FaultNote.{FaultNote}
@@ -31,7 +32,7 @@ use Rattle.whole_files.specs.declared.whole.WholeFault.TheVariants as fault
 use Rattle.whole_files.specs.Claims.{HasShape, is_failed, is_missing, raised_by}
 use Rattle.saved_files.specs.declared.file_faults.RestoreFault.{RestoreFault}
 use Rattle.saved_files.specs.declared.file_faults.RestoreFault.TheVariants as restore
-use Rattle.saved_files.specs.RestoreCauses.{IsRestoreFault, SessionCause}
+use Rattle.saved_files.specs.RestoreCauses.{is_on, ClosesOnce, IsRestoreFault, SessionCause}
 use Rattle.command_session.specs.declared.next.Next.TheVariants.{Go}
 use Rattle.command_session.specs.declared.fault.CommandFault.TheVariants.{OutOfMemory, NoFile, PortFailed}
 use Rattle.command_session.specs.FaultText.{whole_fault}
@@ -198,9 +199,30 @@ restore-before stamp f old new only unused unused' is file none = by f.call refl
     by call.SetLength same = of-file (λ opening. absurd (let both : call.SetLength ≡ call.Opening = sym same ∙ opening in cc))
     by call.Closing same = of-file (λ opening. absurd (let both : call.Closing ≡ call.Opening = sym same ∙ opening in cc))
 
+-- a call that was answered has its note
+failed-once : (o : Option FileId) (file before now : ℕ) → AtMostOnceMore (if is_on file o then raised before else before) now
+    → AtMostOnceMore (raised_by (one_if (is_of file o) + 0) before) now
+failed-once None file before now once = once
+failed-once (Some id) file before now once = by (id.0 == file) once
+  where
+    by : (b : Bool) → AtMostOnceMore (if b then raised before else before) now → AtMostOnceMore (raised_by (one_if b + 0) before) now
+    by true once = once
+    by false once = once
+
+-- and one call more at most has none
+restore-once : (stamp : Stamp) (fault : RestoreFault) (old new : FileState) → ClosesOnce (Err fault) old new
+    → (file : ℕ) → AtMostOnceMore (raised_by (noted file (restore_notes stamp fault)) (old.faults file)) (new.faults file)
+restore-once stamp (restore.Failed f) old new once file = failed-once f.file file (old.faults file) (new.faults file) (once file)
+restore-once stamp (restore.NoFile unit) old new once file = once file
+restore-once stamp (restore.TooLong unit) old new once file = once file
+restore-once stamp (restore.Changed unit) old new once file = once file
+restore-once stamp restore.Port old new once file = once file
+restore-once stamp restore.OutOfMemory old new once file = once file
+
 restore-exact : (stamp : Stamp) (tells : Bool) (fault : RestoreFault) (old new : FileState) → OnlyNewCounts old new → UnusedIdsAreUncounted old → UnusedIdsAreUncounted new
-    → SessionCause tells (Err fault) old new → AreExact true (restore_notes stamp fault) old new
-restore-exact stamp tells fault old new only unused unused' cause = record { files = λ file none. by fault cause file (none refl); ids = only.ids }
+    → SessionCause tells (Err fault) old new → ClosesOnce (Err fault) old new → AreExact true (restore_notes stamp fault) old new
+restore-exact stamp tells fault old new only unused unused' cause once =
+    record { files = λ file none. by fault cause file (none refl); most = restore-once stamp fault old new once; ids = only.ids }
   where
     by : (fault : RestoreFault) → SessionCause tells (Err fault) old new → (file : ℕ) → (IsNewId old new file → ⊥) → new.faults file ≡ raised_by (noted file (restore_notes stamp fault)) (old.faults file)
     by (restore.Failed f) cause file none = restore-before stamp f old new only unused unused' cause file none
@@ -265,9 +287,9 @@ module _ (number time now : ℕ) (tells : Bool) (w : Whole) (v : Vec ℕ) (is : 
   first-exact = both-exact subject.State stamp_here 0 _ w.failed w.closing old mid rises
 
   -- the session was not put back
-  pub refused-restore-keeps : (fault : RestoreFault) (answer : Answer) (notes notes' : List FaultNote) → SessionCause tells (Err fault) mid new → answer ≡ Err (restore_fault fault)
-      → notes' ≡ (notes ++ read_notes subject.State stamp_here w) ++ restore_notes stamp_here fault → KeepsBy true true number time now tells answer notes notes' old new
-  refused-restore-keeps fault answer notes notes' cause answered noted = record {
+  pub refused-restore-keeps : (fault : RestoreFault) (answer : Answer) (notes notes' : List FaultNote) → SessionCause tells (Err fault) mid new → ClosesOnce (Err fault) mid new
+      → answer ≡ Err (restore_fault fault) → notes' ≡ (notes ++ read_notes subject.State stamp_here w) ++ restore_notes stamp_here fault → KeepsBy true true number time now tells answer notes notes' old new
+  refused-restore-keeps fault answer notes notes' cause once answered noted = record {
     kept = read_notes subject.State stamp_here w ++ restore_notes stamp_here fault;
     added = noted ∙ append_assoc notes (read_notes subject.State stamp_here w) (restore_notes stamp_here fault);
     few = let few = few-two in few;
@@ -277,7 +299,7 @@ module _ (number time now : ℕ) (tells : Bool) (w : Whole) (v : Vec ℕ) (is : 
         subst (λ (a : Answer). AreExact (gives_back a) (read_notes subject.State stamp_here w ++ restore_notes stamp_here fault) old new) (sym answered)
         (restore-gives (λ (b : Bool). AreExact b (read_notes subject.State stamp_here w ++ restore_notes stamp_here fault) old new) fault
         (exact-both true (read_notes subject.State stamp_here w) (restore_notes stamp_here fault) old mid new (exact-kept true (read_notes subject.State stamp_here w) old mid first-exact)
-        (restore-exact stamp_here tells fault mid new only unused unused' cause)));
+        (restore-exact stamp_here tells fault mid new only unused unused' cause once)));
     openings = tt;
     cause =
         subst (λ (a : Answer). RestoreFileCause stamp_here tells a (read_notes subject.State stamp_here w ++ restore_notes stamp_here fault) old new) (sym answered)

@@ -39,7 +39,7 @@ use Rattle.host_lines.specs.State.{LineState}
 use Rattle.unit_files.specs.Acts.{flush_files}
 use Rattle.unit_files.specs.Attachments.{Held}
 use Rattle.unit_files.specs.Buffer.{disk_bytes}
-use Rattle.unit_files.specs.Causes.{IsQuiet}
+use Rattle.unit_files.specs.Causes.{AtMostOnceMore, IsQuiet}
 use Rattle.unit_files.specs.Digests.{IsWritingCall, IsReadingCall}
 use Rattle.file_commands.specs.Counts.{noted, one_if, openings_noted, RoseBy}
 use Rattle.whole_files.specs.Claims.{raised_by}
@@ -201,6 +201,7 @@ quiet-keeps number time tells answer notes notes' old mid new quiet k = record {
   };
   exact = record {
     files = λ file none. subst (λ (f : ℕ → ℕ). new.faults file ≡ raised_by (noted file k.kept) (f file)) quiet.counts (k.exact.files file (λ is. absurd (cc)));
+    most = λ file. subst (λ (f : ℕ → ℕ). AtMostOnceMore (raised_by (noted file k.kept) (f file)) (new.faults file)) quiet.counts (k.exact.most file);
     ids = let same = quiet.ids in let later = k.exact.ids in omega (arith, same, later);
   };
   openings = subst (λ (n : ℕ). new.open_faults ≡ raised_by (openings_noted k.kept + one_if (is_missing answer && not tells)) n) quiet.openings k.openings;

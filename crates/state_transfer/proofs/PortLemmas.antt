@@ -7,7 +7,7 @@ use Rattle.saved_files.specs.declared.file_faults.RestoreFault.{RestoreFault}
 use Rattle.saved_files.specs.declared.file_faults.RestoreFault.TheVariants as fault
 use Rattle.state_transfer.specs.Listening.{IsHeardOn, IsPortFault, LeavesLines, wants_port}
 use Rattle.saved_session.specs.Parts.{FilePart}
-use Rattle.saved_files.specs.RestoreCauses.{IsCompared, OpeningsStand, SessionCause}
+use Rattle.saved_files.specs.RestoreCauses.{count_behind, IsCompared, OpeningsStand, SessionCause}
 use Rattle.saved_files.specs.Restoring.{IsOfThese, IsOfSession}
 
 -- ---- behind the files
@@ -68,3 +68,12 @@ port-cause tells (fault.TooLong unit) old new is h = absurd is
 port-cause tells (fault.Changed unit) old new is h = absurd is
 port-cause tells fault.Port old new is h = h
 port-cause tells fault.OutOfMemory old new is h = tt
+
+-- and it is of no file
+pub port-counts : (e : RestoreFault) → IsPortFault e → (file count : ℕ) → count_behind (Err e) file count ≡ count
+port-counts (fault.Failed f) is file count = absurd is
+port-counts (fault.NoFile unit) is file count = absurd is
+port-counts (fault.TooLong unit) is file count = absurd is
+port-counts (fault.Changed unit) is file count = absurd is
+port-counts fault.Port is file count = refl
+port-counts fault.OutOfMemory is file count = refl

@@ -12,7 +12,7 @@ ghost use Rattle.saved_session.specs.Parts.{state_in};
 ghost use Rattle.state_transfer.specs.PutBack.{machine_from};
 ghost use Rattle.saved_session.specs.SavedWatch.{watch_from};
 ghost use Rattle.state_transfer.specs.Putting.{IsPutBack, with_machine_of};
-ghost use Rattle.saved_files.specs.RestoreCauses.{IsCompared, SessionCause};
+ghost use Rattle.saved_files.specs.RestoreCauses.{ClosesOnce, IsCompared, SessionCause};
 ghost use Rattle.saved_files.specs.Restoring.{claim_in, copy_of, first_refused, with_all, IsOfSession, SaysFirst};
 ghost use Rattle.state_transfer.specs.SavedValid.{AreStandard};
 ghost use Rattle.saved_session.specs.Valid.{AreFiles, Valid};
@@ -111,6 +111,7 @@ pub fn put_outside<U: Unit, F: Files, L: Lines>(
     ensures from { AreFrom machine.old.slots machine.new.slots (F.state files.old) (F.state files.new) }
     ensures counts { OnlyNewCounts (F.state files.old) (F.state files.new) }
     ensures cause { SessionCause F.tells result (F.state files.old) (F.state files.new) }
+    ensures once { ClosesOnce result (F.state files.old) (F.state files.new) }
     ensures compared { IsCompared force result }
     ensures unasked { IfErr result (λ fault. (IsPortFault fault → ⊥) → lines.new ≡ lines.old) }
     ensures lines { LeavesLines L.tells saved.now.port machine.old.lines result (L.state lines.old) (L.state lines.new) }
@@ -174,6 +175,7 @@ pub fn set_state<U: Unit, F: Files, L: Lines>(
     ensures from { AreFrom machine.old.slots machine.new.slots (F.state files.old) (F.state files.new) }
     ensures counts { OnlyNewCounts (F.state files.old) (F.state files.new) }
     ensures cause { SessionCause F.tells result (F.state files.old) (F.state files.new) }
+    ensures once { ClosesOnce result (F.state files.old) (F.state files.new) }
     ensures compared { IsCompared force result }
     ensures unasked { IfErr result (λ fault. (IsPortFault fault → ⊥) → lines.new ≡ lines.old) }
     ensures lines { LeavesLines L.tells saved.now.port machine.old.lines result (L.state lines.old) (L.state lines.new) }

@@ -11,8 +11,9 @@ use Rattle.saved_files.proofs.Attaching.{set-back}
 use Rattle.saved_files.proofs.Together.{none-said, first-said, others-said, not-claimed, still-free, still-clean, all-of, head-of}
 use Rattle.saved_files.proofs.Together.{tail-of, apart-of, none-in}
 use Rattle.saved_files.proofs.GivingBackLemmas.{all-held}
-use Rattle.saved_files.proofs.RestoreCounts.{from-both, new-counts, new-counts-behind}
+use Rattle.saved_files.proofs.RestoreCounts.{cause-behind, from-both, new-counts, new-counts-behind}
 use Rattle.saved_files.specs.RestoringOne.{OnlyItsCount}
+use Rattle.saved_files.proofs.ClosingOnce.{closed-behind, closed-since, given-then, same-closed}
 use Rattle.saved_files.proofs.restoring.+attach_each.Goals as goal
 
 pub returns-in-None-clause-told : goal.returns-in-None-clause-told
@@ -112,3 +113,49 @@ returns-in-Ok-clause-held g t c =
     all-held f fs (files_in c.args.saved.now) (attachments_of c.attach_one.new.attached.slots)
     (attachments_of c.attach_each.new.attached.slots) all apart.0 c.in-Ok.ensures.attached
     c.in_ok-attach_one-in-Some.ensures.there c.in-Ok.ensures.held
+
+pub returns-in-None-clause-once : goal.returns-in-None-clause-once
+returns-in-None-clause-once g t c = λ given.
+    same-closed c.args.attached.now.slots (g.F.Files.state c.args.files.now) (g.F.Files.state c.args.files.now) refl
+
+pub returns-in_err-attach_one-in-Some-clause-once : goal.returns-in_err-attach_one-in-Some-clause-once
+returns-in_err-attach_one-in-Some-clause-once g t c =
+    let p = err_from_is_err_and c.from_residual.result c.from_residual.ensures.1 in
+    rw (p.1, p.2) c.in_err-attach_one-in-Some.ensures.once
+
+pub returns-in-Ok-clause-once : goal.returns-in-Ok-clause-once
+returns-in-Ok-clause-once g t c = λ given.
+    let state = g.F.Files.state in
+    same-closed c.attach_each.new.attached.slots (state c.args.files.now) (state c.attach_each.new.files)
+    (c.in-Ok.ensures.cause.0 ∙ c.in_ok-attach_one-in-Some.ensures.cause.0)
+
+pub returns-in-Err-clause-once : goal.returns-in-Err-clause-once
+returns-in-Err-clause-once g t c = λ given.
+    let state = g.F.Files.state in
+    let first = c.in_ok-attach_one-in-Some.ensures in
+    let e = c.in-Err.fault in
+    closed-since (Err e) c.give_back.new.attached.slots (state c.args.files.now) (state c.attach_one.new.files)
+    (state c.give_back.new.files) first.cause.0
+    (closed-behind (Err e) c.attach_each.new.attached.slots c.give_back.new.attached.slots c.unit_of.result
+    (state c.attach_one.new.files) (state c.attach_each.new.files) (state c.give_back.new.files)
+    (c.in-Err.ensures.once (given-then c.args.attached.now.slots c.attach_one.new.attached.slots
+    (state c.args.files.now) (state c.attach_one.new.files) given first.from first.counts.ids))
+    c.give_back.ensures.count c.give_back.ensures.kept c.give_back.ensures.once)
+
+pub returns-in-Ok-clause-around : goal.returns-in-Ok-clause-around
+returns-in-Ok-clause-around g t c = λ base around.
+    c.in-Ok.ensures.around base (c.in_ok-attach_one-in-Some.ensures.around base around)
+
+pub returns-in-Err-clause-around : goal.returns-in-Err-clause-around
+returns-in-Err-clause-around g t c = λ base around.
+    c.give_back.ensures.around base
+    (c.in-Err.ensures.around base (c.in_ok-attach_one-in-Some.ensures.around base around))
+
+pub returns-in-Err-clause-cause : goal.returns-in-Err-clause-cause
+returns-in-Err-clause-cause g t c =
+    let state = g.F.Files.state in
+    let first = c.in_ok-attach_one-in-Some.ensures in
+    let back = c.give_back.ensures.count in
+    cause-behind g.F.Files.tells (state c.args.files.now) (state c.attach_one.new.files) (state c.attach_each.new.files)
+    (state c.give_back.new.files) first.cause first.counts c.in-Err.ensures.counts back.later back.openings back.ids
+    c.in-Err.fault c.in-Err.ensures.cause

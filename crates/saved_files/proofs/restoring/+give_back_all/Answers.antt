@@ -10,6 +10,8 @@ use Rattle.saved_files.specs.RestoringOne.{CanAttach}
 use Rattle.saved_files.proofs.GivingBackLemmas.{still-held, copy-clean}
 use Rattle.saved_files.proofs.RestoreCounts.{no-counts, their-counts}
 use Rattle.saved_files.proofs.Together.{all-of, head-of, tail-of, apart-of}
+use Rattle.std.proofs.Common.{Ok, refl}
+use Rattle.saved_files.proofs.ClosingOnce.{closed-behind, same-closed}
 use Rattle.saved_files.proofs.restoring.+give_back_all.Goals as goal
 
 pub give_back_all-requires : goal.give_back_all-requires
@@ -68,3 +70,14 @@ returns-in-Some-clause-counts g t c =
     (files_in c.in-Some.others.now) (files_in c.args.saved.now) c.unit_of.result (state c.args.files.now)
     (state c.give_back_all.new.files) (state c.give_back.new.files) all c.unit_of.ensures c.give_back_all.ensures.kept
     c.give_back_all.ensures.counts c.give_back.ensures.count
+
+pub returns-in-None-clause-once : goal.returns-in-None-clause-once
+returns-in-None-clause-once g t c =
+    same-closed c.args.attached.now.slots (g.F.Files.state c.args.files.now) (g.F.Files.state c.args.files.now) refl
+
+pub returns-in-Some-clause-once : goal.returns-in-Some-clause-once
+returns-in-Some-clause-once g t c =
+    let state = g.F.Files.state in
+    closed-behind (Ok tt) c.give_back_all.new.attached.slots c.give_back.new.attached.slots c.unit_of.result
+    (state c.args.files.now) (state c.give_back_all.new.files) (state c.give_back.new.files)
+    c.give_back_all.ensures.once c.give_back.ensures.count c.give_back.ensures.kept c.give_back.ensures.once

@@ -9,6 +9,7 @@ use Rattle.saved_session.specs.Order.{place_of}
 use Rattle.saved_files.specs.Restoring.{files_in}
 use Rattle.saved_files.proofs.Together.{all-free, all-clean, nothing-held, only-base, around-nothing}
 use Rattle.saved_files.proofs.ValidFiles.{each-can, all-apart}
+use Rattle.saved_files.proofs.ClosingOnce.{nothing-given}
 use Rattle.saved_files.proofs.restoring.attach_all.Goals as goal
 
 slots-of : (a : AttachedFiles) → a ≡ nothing_attached → a.slots ≡ no_files
@@ -67,3 +68,9 @@ returns-clause-closed g c =
     (g.F.Files.state c.attach_each.new.files).opened c.requires.nothing c.attach_each.ensures.slots
     (c.attach_each.ensures.around opened
     (around-nothing c.args.attached.now.slots opened (slots-of c.args.attached.now c.requires.nothing)))
+
+pub returns-clause-once : goal.returns-clause-once
+returns-clause-once g c =
+    let closes = c.attach_each.ensures.once (nothing-given c.args.attached.now.slots (g.F.Files.state c.args.files.now)
+    (slots-of c.args.attached.now c.requires.nothing)) in
+    closes.files

@@ -1,4 +1,4 @@
-use Rattle.std.proofs.Common.{Some, None, ap, ◌∙◌, rules}
+use Rattle.std.proofs.Common.{Some, None, Err, refl, sym, ap, subst, ◌∙◌, rules}
 use Rattle.unit_trait.specs.declared.kind.UnitName.{UnitName}
 use Rattle.unit_files.specs.Attachments.{attachments_of, is_disk}
 use Rattle.unit_files.specs.Acts.{NotThere, TooLong, CallFailed}
@@ -7,6 +7,10 @@ use Rattle.saved_session.specs.Parts.{file_in}
 use Rattle.saved_files.specs.Restoring.{is_only_read}
 use Rattle.saved_files.proofs.Attaching.{same-files, said-of, bytes-taken}
 use Rattle.saved_files.proofs.RestoreCounts.{refused-opened}
+use Rattle.unit_files.specs.Buffer.{AttachedFiles}
+use Rattle.saved_files.specs.declared.file_faults.RestoreFault.TheVariants as fault
+use Rattle.saved_files.specs.RestoreCauses.{ClosesOthers}
+use Rattle.saved_files.proofs.ClosingOnce.{same-closed, none-closed, long-closed, failed-closed}
 use Rattle.saved_files.proofs.restoring.attach_file.Goals as goal
 
 pub returns-in-Ok-clause-bytes : goal.returns-in-Ok-clause-bytes
@@ -75,3 +79,38 @@ returns-in-Err-TooLong-clause-cause g c =
     let cause = rw c.in-Err-TooLong.field-0-is at c.in-Err-TooLong.ensures.cause in
     let state = g.F.Files.state in
     (refused-opened cause.0.0 0 (state c.args.files.now) (state c.attach.new.files) cause.0.1, cause.1)
+
+pub returns-in-Ok-clause-once : goal.returns-in-Ok-clause-once
+returns-in-Ok-clause-once g c = λ given.
+    same-closed c.attach.new.self.slots (g.F.Files.state c.args.files.now) (g.F.Files.state c.attach.new.files)
+    c.in-Ok.ensures.cause.0
+
+pub returns-in-Err-NoFile-clause-once : goal.returns-in-Err-NoFile-clause-once
+returns-in-Err-NoFile-clause-once g c = λ given.
+    let cause = rw c.in-Err-NoFile.field-0-is at c.in-Err-NoFile.ensures.cause in
+    none-closed (Err (fault.NoFile c.unit_of-unit.result)) c.attach.new.self.slots (g.F.Files.state c.args.files.now)
+    (g.F.Files.state c.attach.new.files) (λ file count. refl) cause.0
+
+pub returns-in-Err-TooLong-clause-once : goal.returns-in-Err-TooLong-clause-once
+returns-in-Err-TooLong-clause-once g c = λ given.
+    let cause = rw c.in-Err-TooLong.field-0-is at c.in-Err-TooLong.ensures.cause in
+    let state = g.F.Files.state in
+    subst (λ (a : AttachedFiles). ClosesOthers (Err (fault.TooLong c.unit_of-unit.result)) a.slots
+    (state c.args.files.now) (state c.attach.new.files)) (sym c.in-Err-TooLong.ensures.refused)
+    (long-closed c.unit_of-unit.result c.args.attached.now.slots cause.0.0 (state c.args.files.now)
+    (state c.attach.new.files) cause.0.1 given)
+
+pub returns-in-Err-Failed-clause-once : goal.returns-in-Err-Failed-clause-once
+returns-in-Err-Failed-clause-once g c = λ given.
+    let cause = rw c.in-Err-Failed.field-0-is at c.in-Err-Failed.ensures.cause in
+    let state = g.F.Files.state in
+    subst (λ (a : AttachedFiles). ClosesOthers (Err (fault.Failed c.in-Err-Failed.fault)) a.slots
+    (state c.args.files.now) (state c.attach.new.files)) (sym c.in-Err-Failed.ensures.refused)
+    (failed-closed c.in-Err-Failed.fault c.unit_of-unit.result c.args.attached.now.slots (state c.args.files.now)
+    (state c.attach.new.files) cause given)
+
+pub returns-in-Err-OutOfMemory-clause-once : goal.returns-in-Err-OutOfMemory-clause-once
+returns-in-Err-OutOfMemory-clause-once g c = λ given.
+    let cause = rw c.in-Err-OutOfMemory.field-0-is at c.in-Err-OutOfMemory.ensures.cause in
+    none-closed (Err fault.OutOfMemory) c.attach.new.self.slots (g.F.Files.state c.args.files.now)
+    (g.F.Files.state c.attach.new.files) (λ file count. refl) cause

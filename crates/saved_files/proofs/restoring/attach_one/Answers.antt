@@ -13,6 +13,8 @@ use Rattle.saved_files.specs.RestoringOne.{CanAttach, CompareCalls, Compares, Sa
 use Rattle.saved_files.proofs.Attaching.{forced, free-first, one-compared, set-back}
 use Rattle.saved_files.proofs.Together.{set-in}
 use Rattle.saved_files.proofs.RestoreCounts.{counts-given-back, cause-compared, compared-plainly}
+use Rattle.saved_files.proofs.ClosingOnce.{closed-behind, closed-since, compared-closed, same-closed}
+use Rattle.saved_files.specs.RestoreCauses.{ClosesOthers}
 use Rattle.saved_files.proofs.restoring.attach_one.Goals as goal
 
 pub returns-then-force-clause-told : goal.returns-then-force-clause-told
@@ -97,3 +99,30 @@ returns-in_err-attach_file-clause-compared g c =
 
 pub returns-in-Err-clause-compared : goal.returns-in-Err-clause-compared
 returns-in-Err-clause-compared g c = compared-plainly c.args.force c.in-Err.fault c.if-force.false
+
+pub returns-in_err-attach_file-clause-once : goal.returns-in_err-attach_file-clause-once
+returns-in_err-attach_file-clause-once g c =
+    let p = err_from_is_err_and c.from_residual.result c.from_residual.ensures.1 in
+    rw (p.1, p.2) c.in_err-attach_file.ensures.once
+
+pub returns-in-Ok-clause-once : goal.returns-in-Ok-clause-once
+returns-in-Ok-clause-once g c = λ given.
+    let state = g.F.Files.state in
+    same-closed c.compare.new.attached.slots (state c.args.files.now) (state c.compare.new.files)
+    (c.in-Ok.ensures.cause.counts ∙ c.in_ok-attach_file.ensures.cause.0)
+
+pub returns-in-Err-clause-once : goal.returns-in-Err-clause-once
+returns-in-Err-clause-once g c = λ given.
+    let state = g.F.Files.state in
+    let unit = unit_of (file_in c.args.file.now) in
+    let mid = c.attach_file.new.attached.slots in
+    let compared : ClosesOthers (Err c.in-Err.fault) mid (state c.attach_file.new.files) (state c.compare.new.files) =
+    compared-closed c.in-Err.fault unit mid (state c.attach_file.new.files) (state c.compare.new.files)
+    c.in-Err.ensures.calls c.in-Err.ensures.cause in
+    closed-since (Err c.in-Err.fault) c.give_back.new.attached.slots (state c.args.files.now)
+    (state c.attach_file.new.files) (state c.give_back.new.files) c.in_ok-attach_file.ensures.cause.0
+    (closed-behind (Err c.in-Err.fault) c.compare.new.attached.slots c.give_back.new.attached.slots c.unit_of.result
+    (state c.attach_file.new.files) (state c.compare.new.files) (state c.give_back.new.files)
+    (subst (λ (a : AttachedFiles). ClosesOthers (Err c.in-Err.fault) a.slots (state c.attach_file.new.files)
+    (state c.compare.new.files)) (sym c.in-Err.ensures.kept) compared)
+    c.give_back.ensures.count c.give_back.ensures.kept c.give_back.ensures.once)

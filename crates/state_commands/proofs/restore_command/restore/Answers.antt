@@ -326,7 +326,7 @@ returns-clause-keeps g c =
     rw (← c.session.view_is)
     (refused-restore-keeps s.command s.machine.time c.set_state.new.machine.time g.F.Files.tells w c.in-Ok.reader.saved.words (ap bytes_for c.in-Ok.ensures.reader) read.shape (g.F.Files.state c.args.files.now)
     (g.F.Files.state c.read_state_file-read.new.files) (g.F.Files.state c.set_state.new.files) (record { counts = read.counts; openings = read.openings; ids = read.ids }) set.counts
-    (g.met.F.Files.unused c.read_state_file-read.new.files) (g.met.F.Files.unused c.set_state.new.files) c.in-Err-set_state.fault (Err c.fault_of_restore.result) s.notes.items c.note_restoring.new.notes.items set.cause (ap Err c.fault_of_restore.ensures)
+    (g.met.F.Files.unused c.read_state_file-read.new.files) (g.met.F.Files.unused c.set_state.new.files) c.in-Err-set_state.fault (Err c.fault_of_restore.result) s.notes.items c.note_restoring.new.notes.items set.cause set.once (ap Err c.fault_of_restore.ensures)
     (c.note_restoring.ensures.notes
     ∙ (λ i. (c.note_state_reading.ensures.notes ∙ ap (λ (t : Stamp). s.notes.items ++ read_notes subject.State t w) stamped) i ++ restore_notes (stamped i) c.in-Err-set_state.fault)))
 

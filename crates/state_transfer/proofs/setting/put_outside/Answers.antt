@@ -12,10 +12,11 @@ use Rattle.saved_session.specs.Order.{place_of}
 use Rattle.saved_files.specs.Restoring.{files_in, IsOfThese}
 use Rattle.saved_files.specs.RestoringOne.{CanAttach, AreApart}
 use Rattle.saved_files.proofs.GivingBackLemmas.{given-back}
-use Rattle.state_transfer.proofs.PortLemmas.{these-of-session, no-listening, port-of-session, no-port, port-compared, port-cause}
+use Rattle.state_transfer.proofs.PortLemmas.{these-of-session, no-listening, port-of-session, no-port, port-compared, port-cause, port-counts}
 use Rattle.saved_files.proofs.RestoreCounts.{new-counts-behind-all, session-cause}
 use Rattle.saved_files.proofs.Together.{all-free, only-base}
 use Rattle.saved_files.proofs.ValidFiles.{each-can, all-apart}
+use Rattle.saved_files.proofs.ClosingOnce.{port-closed}
 use Rattle.state_transfer.proofs.setting.put_outside.Goals as goal
 
 pub give_back_all-requires-clause-can : goal.give_back_all-requires-clause-can
@@ -121,3 +122,18 @@ returns-in-Err-clause-lines g c =
 
 pub returns-in-Err-clause-compared : goal.returns-in-Err-clause-compared
 returns-in-Err-clause-compared g c = port-compared c.args.force c.in-Err.fault c.in-Err.ensures.fault
+
+pub returns-in_err-attach_all-clause-once : goal.returns-in_err-attach_all-clause-once
+returns-in_err-attach_all-clause-once g c =
+    let p = err_from_is_err_and c.from_residual.result c.from_residual.ensures.1 in
+    rw (p.1, p.2) c.in_err-attach_all.ensures.once
+
+pub returns-in-Ok-clause-once : goal.returns-in-Ok-clause-once
+returns-in-Ok-clause-once g c = c.in_ok-attach_all.ensures.once
+
+pub returns-in-Err-clause-once : goal.returns-in-Err-clause-once
+returns-in-Err-clause-once g c =
+    let state = g.F.Files.state in
+    port-closed c.in-Err.fault (state c.args.files.now) (state c.attach_all.new.files) (state c.give_back_all.new.files)
+    (port-counts c.in-Err.fault c.in-Err.ensures.fault) c.in_ok-attach_all.ensures.cause.0
+    c.give_back_all.ensures.once.files

@@ -1,4 +1,5 @@
 use Rattle.std.proofs.Common.{◌∙◌, ap, sym, subst, ℕ, List, Option, None}
+use Rattle.std.proofs.lemmas.Result.{err_from_is_err_and}
 use Rattle.unit_files.specs.Attachments.{Held}
 use Rattle.unit_files.specs.Open.{Around}
 use Rattle.telnet_lines.specs.Line.{LineOf}
@@ -10,13 +11,23 @@ use Rattle.command_session.specs.Live.{CommandState, live_in, beyond}
 use Rattle.command_session.specs.Doing.{ClosesFiles}
 use Rattle.command_session.proofs.KeptLemmas.{lines-kept}
 use Rattle.command_session.proofs.ClosedLive.{unported-live}
-use Rattle.command_session.proofs.CloseLemmas.{closes-ported}
+use Rattle.command_session.proofs.CloseLemmas.{closes-kept, closes-ported}
 use Rattle.command_session.specs.PortAnswers.{ClosesPort}
 use Rattle.command_session.proofs.session.Session.detach_all.Goals as goal
 
 pub returns-in_err-detach_files-clause-left : goal.returns-in_err-detach_files-clause-left
 returns-in_err-detach_files-clause-left g c =
     lines-kept g.L.Lines.tells (g.L.Lines.state c.args.lines.now) c.args.self.now.machine.lines c.detach_files.new.self.machine.lines c.detach_files.ensures.terminals
+
+pub returns-in_err-detach_files-clause-closes : goal.returns-in_err-detach_files-clause-closes
+returns-in_err-detach_files-clause-closes g c = λ told whole.
+    let p = err_from_is_err_and c.from_residual.result c.from_residual.ensures.1 in
+    let lines = g.L.Lines.state c.args.lines.now in
+    let old = c.args.self.now in
+    let new = c.detach_files.new.self in
+    rw (p.1, p.2) (closes-kept old.command (live_in old (beyond (g.F.Files.state c.args.files.now).files lines whole))
+    (live_in new (beyond (g.F.Files.state c.detach_files.new.files).files lines whole)) c.in_err-detach_files.field-0.0.unit (notes_said old.notes) (notes_said new.notes)
+    (c.in_err-detach_files.ensures.closes lines whole))
 
 pub returns-clause-closes : goal.returns-clause-closes
 returns-clause-closes g c = λ told whole.
