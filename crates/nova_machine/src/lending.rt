@@ -23,9 +23,9 @@ impl<U: Unit> Machine<U> {
         &mut self.processor.memory
     }
 
-    /// The terminal line with that number, to be given a port or none as a person at the console does. It takes no time.
-    /// None exactly for a number that the machine lacks: line 0 is the second teletype's, and lines 1 to 64, behind it,
-    /// are the multiplexer's.
+    /// The terminal line with that number, to be given a port or none as a person at the console does. It takes no
+    /// time. None exactly for a number that the machine lacks: line 0 is the second teletype's, and lines 1 to 64,
+    /// behind it, are the multiplexer's.
     pub fn line(&mut self, number: u8) -> Option<&mut Line>
         ensures* writes_back { sem 𝓛 (LendsIf (the_row U.row U.Unit) line_row self.entry result
             (with_line self.old number) self.old) }
