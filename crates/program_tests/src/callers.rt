@@ -38,15 +38,26 @@ fn calls(alloc: Global, lines: &mut MemLines, typed: &str) -> Result<(), AllocEr
 }
 
 /// As many ports are listened on and as many calls have failed as the row says, or none. The caller of the row, if
-/// there is one, was sent the opening and what the row says, or still waits to be accepted.
+/// there is one, was sent the opening and what the row says, or still waits to be accepted. One that was accepted was
+/// hung up on once, and nobody else was, if the row says nothing else.
 pub fn lines_stand(rt: &impl Abort, lines: &mut CountedPorts<MemLines>, row: Row<'_>) {
     holds(rt, lines.ports == number(row, "ports", 0), row.line);
+    holds(
+        rt,
+        lines.hang_ups == number(row, "hangs", accepted(row)),
+        row.line,
+    );
     let lines = &mut lines.lines;
     holds(rt, lines.faults() == number(row, "lost", 0), row.line);
     holds(rt, are_sent(lines.sent(), text(row, "sent")), row.line);
     let waits = matches!(lines.accept(PORT, 300), Ok(Some(_)));
     let is_to_wait = text(row, "types").is_some() && text(row, "sent").is_none();
     holds(rt, waits == is_to_wait, row.line);
+}
+
+/// How many callers of a row are accepted.
+fn accepted(row: Row<'_>) -> u64 {
+    u64::from(text(row, "sent").is_some())
 }
 
 fn are_sent(sent: &[Sent], wanted: Option<&str>) -> bool {

@@ -1,18 +1,24 @@
-// Terminal lines whose ports are counted: each call is passed on to other lines.
+// Terminal lines whose ports and hang-ups are counted: each call is passed on to other lines.
 use host_lines::{ConnId, LineFault, Lines, ListenFault, Received};
 use std::alloc::Global;
 
-/// Lines that pass each call on to others, and how many ports are listened on, of which each is listened on once.
+/// Lines that pass each call on to others, how many ports are listened on, of which each is listened on once, and how
+/// often a connection was hung up on.
 #[derive(Drop)]
 pub struct CountedPorts<L: Lines> {
     pub lines: L,
     pub ports: u64,
+    pub hang_ups: u64,
 }
 
 impl<L: Lines> CountedPorts<L> {
-    /// Lines of which no port is listened on yet.
+    /// Lines of which no port is listened on yet, and with no connection.
     pub fn new(lines: L) -> CountedPorts<L> {
-        CountedPorts { lines, ports: 0 }
+        CountedPorts {
+            lines,
+            ports: 0,
+            hang_ups: 0,
+        }
     }
 }
 
@@ -47,6 +53,7 @@ impl<L: Lines> Lines for CountedPorts<L> {
     }
 
     fn hang_up(&mut self, conn: ConnId) {
+        self.hang_ups = self.hang_ups.saturating_add(1);
         self.lines.hang_up(conn)
     }
 

@@ -4,7 +4,8 @@
 // (`refuses`); and then what is printed (`prints` and `then`, as far as there is room), the status, the note of the
 // failed call (`note`), what is left of the input (`left`), files behind it (`after`), words of memory (`cells`),
 // that there is no machine (`machine=none`), what the caller was sent behind the opening, where it was accepted
-// (`sent`), how many calls on lines have failed (`lost`) and how many ports are still listened on (`ports`).
+// (`sent`), how many calls on lines have failed (`lost`), how many ports are still listened on (`ports`) and how often a
+// connection was hung up on, where it is not once for a caller that was accepted (`hangs`).
 ghost use Rattle.std.specs.Prelude.{◌≡◌, map};
 ghost use Rattle.unit_trait.specs.declared.kind.Kind.TheVariants.{Dsk as disks, Mta as tapes, Lpt as printers, Ptr as readers};
 ghost use Rattle.unit_trait.specs.declared.kind.Kind.TheVariants.{Ptp as punches, Clk as clocks, Tti as keyboards};

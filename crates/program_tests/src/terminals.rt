@@ -24,9 +24,9 @@ const ECHOES: &str =
 /// At the look of 200 the key is sent back; at that of 300 the caller has gone.
 const HEARD: &str = "words=-q -l 150 | sent=
 words=-q -l 250 | sent=A
-words=-q -l 350 | sent=A
+words=-q -l 350 | sent=A | hangs=0
 ; what waits at the hang-up is lost
-words=-q -l 450 | types=AB | sent=A
+words=-q -l 450 | types=AB | sent=A | hangs=0
 ; looks after 32 each; eight bits both ways, and FF twice
 words=-q -l 250 | lines=ATTACH TTI1 4000~D TTI1 TIME 40~D TTO1 TIME 10~D 100 63650~D 101 777~D 102 60650~D 103 61151~D 104 100~GO 100~ | types=\u{ff}\u{ff}\u{c1} | sent=\u{ff}\u{ff}\u{c1}";
 
@@ -40,7 +40,9 @@ types=A | sent= | lines=ATTACH TTI1 4000~SHOW TTI1~D 100 400~GO 100~SHOW TTI1~SE
 ; DETACH hangs up too
 types=A | sent= | lines=ATTACH TTI1 4000~D 100 400~GO 100~DETACH TTI1~SHOW TTI1~ATTACH TTI1 4000~SHOW TTI1~ | prints=~Instruction limit, PC: 00100 (000400)~TTI1, not attached~TTI1, listening on port 4000~
 ; the caller hangs up
-words=-q -l 350 | types=A | sent= | lines=ATTACH TTI1 4000~D 100 400~GO 100~SHOW TTI1~ | prints=~Instruction limit, PC: 00100 (000400)~TTI1, listening on port 4000~
+words=-q -l 350 | types=A | sent= | hangs=0 | lines=ATTACH TTI1 4000~D 100 400~GO 100~SHOW TTI1~ | prints=~Instruction limit, PC: 00100 (000400)~TTI1, listening on port 4000~
+; a call that receives fails, and the program hangs up
+types=A | sent= | refuses=4 | lost=1 | lines=ATTACH TTI1 4000~D 100 400~GO 100~SHOW TTI1~DETACH TTI1~ | prints=~Instruction limit, PC: 00100 (000400)~TTI1, listening on port 4000~
 ; a reset leaves it
 types=A | sent= | lines=ATTACH TTI1 4000~D 100 400~GO 100~RESET~SHOW TTI1~ | prints=~Instruction limit, PC: 00100 (000400)~TTI1, listening on port 4000, connected~";
 
