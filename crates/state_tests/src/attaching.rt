@@ -2,9 +2,10 @@
 ghost use Rattle.saved_session.specs.Parts.{state_in};
 ghost use Rattle.saved_session.specs.Valid.{Valid};
 
+use crate::same::same_files;
 use crate::texts::{FIRST, bytes_of, equal, holds, number};
 use host_files::{FileCall, FileId, Files, MemFiles};
-use state_file::{RestoreFault, SaveFault, Saved, SavedFile, attach_all, digest_all, read_state};
+use state_file::{RestoreFault, SaveFault, Saved, attach_all, digest_all, read_state};
 use std::alloc::{AllocError, Global};
 use std::process::Abort;
 use std::test::Fail;
@@ -240,23 +241,6 @@ fn save_fault_of(text: &str) -> Option<SaveFault> {
         Err(RestoreFault::Failed(fault)) => Some(SaveFault::Failed(fault)),
         _ => None,
     }
-}
-
-pub fn same_files(found: &[SavedFile], wanted: &[SavedFile]) -> bool {
-    found.len() == wanted.len()
-        && found
-            .iter()
-            .zip(wanted.iter())
-            .all(|(a, b)| same_file(a, b))
-}
-
-fn same_file(found: &SavedFile, wanted: &SavedFile) -> bool {
-    found.position == wanted.position
-        && found.unit == wanted.unit
-        && found.read_only == wanted.read_only
-        && found.name == wanted.name
-        && found.length == wanted.length
-        && found.digest == wanted.digest
 }
 
 fn saves<F: Files>(

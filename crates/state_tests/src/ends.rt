@@ -1,5 +1,5 @@
 // State files that are cut, that go on behind their end, or of which one byte is another one.
-use crate::faults::fault_in;
+use crate::faults::{fault_in, is_refused};
 use crate::texts::{
     BUSY, BUSY_DIGEST, FIRST, FIRST_DIGEST, both_of, bytes_of, equal, holds, number,
 };
@@ -32,26 +32,37 @@ fn set(bytes: &mut Vec<u8>, place: usize, byte: u8) {
     }
 }
 
-fn changed_fault(alloc: Global) -> Result<Option<StateFault>, AllocError> {
-    Ok(Some(StateFault::BadDigest {
+fn changed_fault(alloc: Global) -> Result<StateFault, AllocError> {
+    Ok(StateFault::BadDigest {
         kept: digest_of(alloc, FIRST_DIGEST)?,
         found: digest_of(alloc, CHANGED_DIGEST)?,
-    }))
+    })
+}
+
+fn has_a_fault_behind(
+    rt: &impl Abort,
+    alloc: Global,
+    bytes: &mut Vec<u8>,
+    wanted: StateFault,
+) -> Result<(), AllocError> {
+    bytes.push(0)?;
+    is_refused(
+        rt,
+        alloc,
+        bytes.as_slice(),
+        wanted,
+        "one byte behind the end",
+    );
+    Ok(())
 }
 
 #[test]
 fn a_changed_word_has_another_digest(rt: HostRuntime) -> Result<(), Fail> {
+    let wanted = changed_fault(rt.alloc())?;
     let mut bytes = first(rt.alloc())?;
     set(&mut bytes, 100, 1);
-    let wanted = changed_fault(rt.alloc())?;
-    equal(&rt, &fault_in(rt.alloc(), &bytes), &wanted, "byte 100");
-    bytes.push(0)?;
-    equal(
-        &rt,
-        &fault_in(rt.alloc(), &bytes),
-        &wanted,
-        "and one behind the end",
-    );
+    is_refused(&rt, rt.alloc(), &bytes, wanted, "byte 100");
+    has_a_fault_behind(&rt, rt.alloc(), &mut bytes, wanted)?;
     Ok(())
 }
 
@@ -59,24 +70,13 @@ fn a_changed_word_has_another_digest(rt: HostRuntime) -> Result<(), Fail> {
 fn a_byte_behind_the_end_is_a_field_too_many(rt: HostRuntime) -> Result<(), Fail> {
     let mut bytes = first(rt.alloc())?;
     equal(&rt, &bytes.len(), &65905, "the length");
-    bytes.push(0)?;
-    equal(
-        &rt,
-        &fault_in(rt.alloc(), &bytes),
-        &Some(StateFault::BadField(65905)),
-        "one byte",
-    );
+    has_a_fault_behind(&rt, rt.alloc(), &mut bytes, StateFault::BadField(65905))?;
     Ok(())
 }
 
 fn is_cut_at(rt: &impl Abort, alloc: Global, bytes: &[u8], length: usize) {
     let front = &bytes[..length.min(bytes.len())];
-    equal(
-        rt,
-        &fault_in(alloc, front),
-        &Some(StateFault::Truncated),
-        "a cut",
-    );
+    is_refused(rt, alloc, front, StateFault::Truncated, "a cut");
 }
 
 #[test]
@@ -138,41 +138,31 @@ fn no_byte_of_the_fixed_part_can_be_one_more(rt: HostRuntime) -> Result<(), Fail
     Ok(())
 }
 
+/// The bytes of a text have that fault.
+fn is_refused_with_fault(
+    rt: &impl Abort,
+    alloc: Global,
+    text: &str,
+    wanted: StateFault,
+) -> Result<(), AllocError> {
+    let bytes = bytes_of(alloc, text)?;
+    is_refused(rt, alloc, &bytes, wanted, text);
+    Ok(())
+}
+
 // A state of another first word, of another version, and of three bytes alone.
 #[test]
 fn what_begins_otherwise_is_no_state(rt: HostRuntime) -> Result<(), Fail> {
-    let other = bytes_of(rt.alloc(), "4E4F564153544158 0001")?;
-    equal(
-        &rt,
-        &fault_in(rt.alloc(), &other),
-        &Some(StateFault::NotState),
-        "other",
-    );
-    let later = bytes_of(rt.alloc(), "4E4F564153544154 0003")?;
-    equal(
-        &rt,
-        &fault_in(rt.alloc(), &later),
-        &Some(StateFault::Version(3)),
-        "later",
-    );
+    let other = "4E4F564153544158 0001";
+    is_refused_with_fault(&rt, rt.alloc(), other, StateFault::NotState)?;
+    let later = "4E4F564153544154 0003";
+    is_refused_with_fault(&rt, rt.alloc(), later, StateFault::Version(3))?;
     Ok(())
 }
 
 #[test]
 fn three_bytes_of_the_first_are_too_few(rt: HostRuntime) -> Result<(), Fail> {
-    let short = bytes_of(rt.alloc(), "4E4F56")?;
-    equal(
-        &rt,
-        &fault_in(rt.alloc(), &short),
-        &Some(StateFault::Truncated),
-        "short",
-    );
-    let wrong = bytes_of(rt.alloc(), "4E4F57")?;
-    equal(
-        &rt,
-        &fault_in(rt.alloc(), &wrong),
-        &Some(StateFault::NotState),
-        "wrong",
-    );
+    is_refused_with_fault(&rt, rt.alloc(), "4E4F56", StateFault::Truncated)?;
+    is_refused_with_fault(&rt, rt.alloc(), "4E4F57", StateFault::NotState)?;
     Ok(())
 }

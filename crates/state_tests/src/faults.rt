@@ -25,6 +25,11 @@ pub fn fault_in(alloc: Global, bytes: &[u8]) -> Option<StateFault> {
     }
 }
 
+/// The bytes have that fault.
+pub fn is_refused(rt: &impl Abort, alloc: Global, bytes: &[u8], wanted: StateFault, line: &str) {
+    equal(rt, &fault_in(alloc, bytes), &Some(wanted), line);
+}
+
 /// Puts the bytes of a text in the place of others.
 fn put_at(bytes: &mut Vec<u8>, place: usize, new: &[u8]) {
     for (old, byte) in bytes.as_mut_slice().iter_mut().skip(place).zip(new.iter()) {
@@ -108,14 +113,13 @@ fn has_fault(rt: &impl Abort, alloc: Global, line: &str) -> Result<(), AllocErro
     let mut bytes = both_of(alloc, BUSY, BUSY_DIGEST)?;
     let new = both_of(alloc, "", digits)?;
     put_at(&mut bytes, number(place), &new);
-    equal(rt, &fault_in(alloc, &bytes), &Some(fault_of(wanted)), line);
-    equal(
-        rt,
-        &fault_in_pieces(alloc, &bytes, 7),
-        &Some(fault_of(wanted)),
-        line,
-    );
+    has_the_fault(rt, alloc, &bytes, fault_of(wanted), line);
     Ok(())
+}
+
+fn has_the_fault(rt: &impl Abort, alloc: Global, bytes: &[u8], wanted: StateFault, line: &str) {
+    is_refused(rt, alloc, bytes, wanted, line);
+    equal(rt, &fault_in_pieces(alloc, bytes, 7), &Some(wanted), line);
 }
 
 #[test]

@@ -1,7 +1,7 @@
 // State files that come in pieces.
 ghost use Rattle.std.specs.Prelude.{◌<◌};
 
-use crate::same::{same_breaks, same_cpu, same_expects, same_files, same_units};
+use crate::same::same;
 use crate::texts::{BUSY, BUSY_DIGEST, FIRST, FIRST_DIGEST, both_of, equal, holds};
 use state_file::{OutOfMemory, Saved, StateFault, StateReader, read_state};
 use std::alloc::Global;
@@ -45,19 +45,6 @@ pub fn fault_in_pieces(alloc: Global, bytes: &[u8], size: usize) -> Option<State
         Ok(_) => None,
         Err(fault) => Some(fault),
     }
-}
-
-fn same(found: &Saved, wanted: &Saved) -> bool {
-    same_cpu(&found.cpu, &wanted.cpu)
-        && found.words == wanted.words
-        && same_units(&found.units, &wanted.units)
-        && found.agenda == wanted.agenda
-        && same_files(&found.attachments, &wanted.attachments)
-        && found.port == wanted.port
-        && same_breaks(&found.breaks, &wanted.breaks)
-        && same_expects(&found.expects, &wanted.expects)
-        && found.tail == wanted.tail
-        && found.sends == wanted.sends
 }
 
 fn is_same(rt: &impl Abort, found: &Result<Saved, StateFault>, wanted: &Saved, line: &str) {

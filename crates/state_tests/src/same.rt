@@ -1,7 +1,36 @@
 // Saved sessions compared, field by field.
-use state_file::{SavedBreak, SavedCpu, SavedExpect, SavedFile, SavedUnit};
+use state_file::{Saved, SavedBreak, SavedCpu, SavedExpect, SavedFile, SavedUnit};
 
-pub fn same_cpu(found: &SavedCpu, wanted: &SavedCpu) -> bool {
+/// Whether two sessions are the same.
+pub fn same(found: &Saved, wanted: &Saved) -> bool {
+    same_machine(found, wanted)
+        && same_units_and_events(found, wanted)
+        && same_outside(found, wanted)
+        && same_stops(found, wanted)
+        && same_bytes(found, wanted)
+}
+
+fn same_machine(found: &Saved, wanted: &Saved) -> bool {
+    same_cpu(&found.cpu, &wanted.cpu) && found.words == wanted.words
+}
+
+fn same_units_and_events(found: &Saved, wanted: &Saved) -> bool {
+    same_units(&found.units, &wanted.units) && found.agenda == wanted.agenda
+}
+
+fn same_outside(found: &Saved, wanted: &Saved) -> bool {
+    same_files(&found.attachments, &wanted.attachments) && found.port == wanted.port
+}
+
+fn same_stops(found: &Saved, wanted: &Saved) -> bool {
+    same_breaks(&found.breaks, &wanted.breaks) && same_expects(&found.expects, &wanted.expects)
+}
+
+fn same_bytes(found: &Saved, wanted: &Saved) -> bool {
+    found.tail == wanted.tail && found.sends == wanted.sends
+}
+
+fn same_cpu(found: &SavedCpu, wanted: &SavedCpu) -> bool {
     found.size_k == wanted.size_k
         && found.acs == wanted.acs
         && found.carry == wanted.carry
@@ -15,20 +44,20 @@ pub fn same_cpu(found: &SavedCpu, wanted: &SavedCpu) -> bool {
         && found.keys_taken == wanted.keys_taken
 }
 
-pub fn same_units(found: &[SavedUnit], wanted: &[SavedUnit]) -> bool {
+fn same_units(found: &[SavedUnit], wanted: &[SavedUnit]) -> bool {
     found.len() == wanted.len()
         && found.iter().zip(wanted.iter()).all(|(a, b)| a.position == b.position
             && a.registers == b.registers)
 }
 
-pub fn same_breaks(found: &[SavedBreak], wanted: &[SavedBreak]) -> bool {
+fn same_breaks(found: &[SavedBreak], wanted: &[SavedBreak]) -> bool {
     found.len() == wanted.len()
         && found.iter().zip(wanted.iter()).all(|(a, b)| a.address == b.address
             && a.count == b.count
             && a.actions == b.actions)
 }
 
-pub fn same_expects(found: &[SavedExpect], wanted: &[SavedExpect]) -> bool {
+fn same_expects(found: &[SavedExpect], wanted: &[SavedExpect]) -> bool {
     found.len() == wanted.len()
         && found.iter().zip(wanted.iter()).all(|(a, b)| a.count == b.count
             && a.text == b.text

@@ -1,22 +1,17 @@
 // Sessions that are put back into a new machine of the standard units, and taken again.
-ghost use Rattle.std.specs.Prelude.{◌≡◌, ◌∷◌, [], map};
-ghost use Rattle.unit_trait.specs.declared.kind.Kind.TheVariants.{Dsk as disks, Mta as tapes, Lpt as printers};
-ghost use Rattle.unit_trait.specs.declared.kind.Kind.TheVariants.{Ptr as readers, Ptp as punches, Clk as clocks};
-ghost use Rattle.unit_trait.specs.declared.kind.Kind.TheVariants.{Tti as keyboards, Tto as teleprinters};
-ghost use Rattle.unit_trait.specs.declared.kind.Kind.TheVariants.{Tti1 as second_keyboards, Tto1 as second_printers};
-ghost use Rattle.unit_trait.specs.Row.{initial_unit};
+ghost use Rattle.std.specs.Prelude.{◌≡◌, map};
 ghost use Rattle.unit_files.specs.Buffer.{nothing_attached};
+ghost use Rattle.unit_files.specs.Open.{AllOpen};
 ghost use Rattle.nova_machine.specs.Machine.{attached_files};
+ghost use Rattle.command_words.specs.Standard.{IsStandard};
 ghost use Rattle.saved_session.specs.Parts.{state_in};
 ghost use Rattle.state_transfer.specs.SavedValid.{AreStandard};
 ghost use Rattle.saved_session.specs.Valid.{Valid};
 
-use crate::attaching::{
-    FILES, Row, add_bytes, answer_of, files_of, row_of, same_files, stand, state_text,
-};
-use crate::same::{same_breaks, same_cpu, same_expects, same_units};
+use crate::attaching::{FILES, Row, add_bytes, answer_of, files_of, row_of, stand, state_text};
+use crate::same::same;
 use crate::texts::{BUSY, bytes_of, equal, holds};
-use crate::units::plays;
+use crate::units::standard_units;
 use expect_actions::Watch;
 use host_files::Files;
 use host_lines::{Lines, MemLines};
@@ -33,16 +28,22 @@ one byte of the reader's file | disk=sector reel= in=hellO |  | Changed=PTR
 the same, forced | disk=sector reel= in=hellO | F | ok
 the opening of the drive's file | disk=sector reel= in=hello | 5 | Failed=MTA7:Opening:";
 
-/// Plays a row on a new machine with these units.
-pub fn plays_on<U: Unit>(
+/// Plays a row on a new machine with new units.
+fn plays(rt: &impl Abort, alloc: Global, saved: &Saved, row: Row<'_>) -> Result<(), AllocError>
+    requires { Valid (state_in saved.now) }
+{
+    let units = standard_units(alloc)?;
+    plays_on(rt, alloc, units, saved, row)
+}
+
+fn plays_on<U: Unit>(
     rt: &impl Abort,
     alloc: Global,
     units: Vec<U>,
     saved: &Saved,
     row: Row<'_>,
 ) -> Result<(), AllocError>
-    requires units { map U.unit_state units.items ≡ map initial_unit (disks ∷ tapes ∷ printers ∷ readers ∷ punches
-        ∷ clocks ∷ keyboards ∷ teleprinters ∷ second_keyboards ∷ second_printers ∷ []) }
+    requires units { IsStandard (map U.unit_state units.items) }
     requires valid { Valid (state_in saved.now) }
 {
     let mut machine = Machine::new(alloc, units)?;
@@ -67,7 +68,6 @@ fn with_machine<U: Unit>(
     }
 }
 
-/// The answer is that of the row; and what is taken behind that is what was put back.
 fn with_files<U: Unit, F: Files, L: Lines>(
     rt: &impl Abort,
     alloc: Global,
@@ -82,33 +82,49 @@ fn with_files<U: Unit, F: Files, L: Lines>(
     requires nothing { attached_files machine.old ≡ nothing_attached }
 {
     let mut watch = Watch::new(alloc)?;
-    let answer = set_state(alloc, saved, row.force, machine, &mut watch, files, lines);
-    equal(rt, &answer, &answer_of(row.answer), row.line);
-    stand(rt, machine.attached_mut(), answer.is_ok(), row.line);
-    if answer.is_ok() && !row.force {
-        match take_state(alloc, machine, &watch, files) {
-            Ok(found) => is_same(rt, &found, saved, row.line),
-            Err(_) => holds(rt, false, row.line),
-        }
-    }
+    with_watch(rt, alloc, machine, &mut watch, files, lines, saved, row);
     Ok(())
 }
 
-fn is_same(rt: &impl Abort, found: &Saved, wanted: &Saved, line: &str) {
-    holds(rt, same_cpu(&found.cpu, &wanted.cpu), line);
-    holds(rt, found.words == wanted.words, line);
-    holds(rt, same_units(&found.units, &wanted.units), line);
-    holds(rt, found.agenda == wanted.agenda, line);
-    holds(
-        rt,
-        same_files(&found.attachments, &wanted.attachments),
-        line,
-    );
-    equal(rt, &found.port, &wanted.port, line);
-    holds(rt, same_breaks(&found.breaks, &wanted.breaks), line);
-    holds(rt, same_expects(&found.expects, &wanted.expects), line);
-    holds(rt, found.tail == wanted.tail, line);
-    holds(rt, found.sends == wanted.sends, line);
+/// The answer is that of the row; and what is taken behind that is what was put back.
+fn with_watch<U: Unit, F: Files, L: Lines>(
+    rt: &impl Abort,
+    alloc: Global,
+    machine: &mut Machine<U>,
+    watch: &mut Watch,
+    files: &mut F,
+    lines: &mut L,
+    saved: &Saved,
+    row: Row<'_>,
+)
+    requires valid { Valid (state_in saved.now) }
+    requires standard { AreStandard machine.old.units }
+    requires nothing { attached_files machine.old ≡ nothing_attached }
+{
+    let answer = set_state(alloc, saved, row.force, machine, watch, files, lines);
+    equal(rt, &answer, &answer_of(row.answer), row.line);
+    stand(rt, machine.attached_mut(), answer.is_ok(), row.line);
+    if answer.is_ok() && !row.force {
+        is_taken_again(rt, alloc, machine, watch, files, saved, row.line);
+    }
+}
+
+fn is_taken_again<U: Unit, F: Files>(
+    rt: &impl Abort,
+    alloc: Global,
+    machine: &mut Machine<U>,
+    watch: &Watch,
+    files: &mut F,
+    saved: &Saved,
+    line: &str,
+)
+    requires standard { AreStandard machine.old.units }
+    requires open { AllOpen machine.old.slots (F.state files.old).opened }
+{
+    match take_state(alloc, machine, watch, files) {
+        Ok(found) => holds(rt, same(&found, saved), line),
+        Err(_) => holds(rt, false, line),
+    }
 }
 
 fn plays_all(rt: &impl Abort, alloc: Global, text: &[u8]) -> Result<(), AllocError> {

@@ -1,6 +1,6 @@
 // States that are read, and written again.
 use crate::texts::{BUSY, BUSY_DIGEST, FIRST, FIRST_DIGEST, both_of, equal, holds};
-use state_file::{Saved, SavedEvent, SavedSend, StateFault, read_state, write_state};
+use state_file::{Saved, SavedCpu, SavedEvent, SavedSend, StateFault, read_state, write_state};
 use std::alloc::Global;
 use std::process::Abort;
 use std::test::Fail;
@@ -35,14 +35,22 @@ fn a_busy_state_is_written_as_it_was_read(rt: HostRuntime) -> Result<(), Fail> {
     Ok(())
 }
 
-/// The machine of the busy state.
-fn has_its_machine(rt: &impl Abort, saved: &Saved) {
-    equal(rt, &saved.cpu.size_k, &4, "size");
-    holds(rt, saved.cpu.acs == [1, 2, 3, 65535], "accumulators");
-    equal(rt, &saved.cpu.pc, &0o100, "PC");
-    equal(rt, &saved.cpu.time, &604, "time");
-    equal(rt, &saved.words.len(), &4096, "words");
-    equal(rt, &saved.words.first(), &Some(&0x1234), "the first word");
+/// The processor of the busy state.
+fn has_its_cpu(rt: &impl Abort, cpu: &SavedCpu) {
+    equal(rt, &cpu.size_k, &4, "size");
+    holds(rt, cpu.acs == [1, 2, 3, 65535], "accumulators");
+    equal(rt, &cpu.pc, &0o100, "PC");
+    equal(rt, &cpu.time, &604, "time");
+}
+
+/// Its memory.
+fn has_its_words(rt: &impl Abort, words: &[u16]) {
+    equal(rt, &words.len(), &4096, "words");
+    equal(rt, &words.first(), &Some(&0x1234), "the first word");
+}
+
+/// Its units, and its events.
+fn has_its_units(rt: &impl Abort, saved: &Saved) {
     equal(rt, &saved.units.len(), &10, "units");
     let tape = SavedEvent {
         position: 1,
@@ -52,12 +60,23 @@ fn has_its_machine(rt: &impl Abort, saved: &Saved) {
     equal(rt, &saved.agenda.get(2), &Some(&tape), "the third event");
 }
 
+/// The machine of the busy state.
+fn has_its_machine(rt: &impl Abort, saved: &Saved) {
+    has_its_cpu(rt, &saved.cpu);
+    has_its_words(rt, saved.words.as_slice());
+    has_its_units(rt, saved);
+}
+
 /// What the busy state has beside its machine.
 fn has_its_lists(rt: &impl Abort, saved: &Saved) {
     equal(rt, &saved.attachments.len(), &5, "files");
     equal(rt, &saved.port, &2323, "port");
     equal(rt, &saved.breaks.len(), &3, "breaks");
     equal(rt, &saved.expects.len(), &2, "texts");
+}
+
+/// What was printed last, and what is to be sent.
+fn has_its_bytes(rt: &impl Abort, saved: &Saved) {
     holds(rt, saved.tail.as_slice() == b"\r\n>".as_slice(), "the tail");
     let sent = SavedSend {
         time: 604,
@@ -82,15 +101,18 @@ fn has_its_texts(rt: &impl Abort, saved: &Saved) {
     }
 }
 
+fn has_all(rt: &impl Abort, saved: &Saved) {
+    has_its_machine(rt, saved);
+    has_its_lists(rt, saved);
+    has_its_bytes(rt, saved);
+    has_its_texts(rt, saved);
+}
+
 #[test]
 fn a_busy_state_says_what_it_holds(rt: HostRuntime) -> Result<(), Fail> {
     let bytes = both_of(rt.alloc(), BUSY, BUSY_DIGEST)?;
     match read_state(rt.alloc(), &bytes) {
-        Ok(saved) => {
-            has_its_machine(&rt, &saved);
-            has_its_lists(&rt, &saved);
-            has_its_texts(&rt, &saved);
-        }
+        Ok(saved) => has_all(&rt, &saved),
         Err(_) => holds(&rt, false, "it is read"),
     }
     Ok(())

@@ -1,7 +1,6 @@
-use Rattle.std.proofs.Common.{◌≡◌, List, [], ◌∷◌, map, refl, sym, ap, subst, ◌∙◌}
-use Rattle.unit_trait.specs.declared.kind.Kind.TheVariants.{Dsk, Mta, Lpt, Ptr, Ptp, Clk, Tti, Tto, Tti1, Tto1}
+use Rattle.std.proofs.Common.{◌≡◌, List, map, refl, sym, ap, subst, ◌∙◌}
 use Rattle.unit_trait.specs.Calls.{UnitState}
-use Rattle.unit_trait.specs.Row.{initial_unit}
+use Rattle.command_words.specs.Standard.{IsStandard}
 use Rattle.unit_list.specs.Bus.{kinds_of}
 use Rattle.unit_list.proofs.Resets.{reset-kinds}
 use Rattle.unit_files.specs.Buffer.{nothing_attached}
@@ -10,10 +9,7 @@ use Rattle.state_transfer.specs.SavedValid.{AreStandard}
 use Rattle.state_tests.proofs.session.plays_on.Goals as goal
 
 -- a new machine with the ten units is a standard one, and has no files
-new-standard : (units : List UnitState)
-    → units
-    ≡ map initial_unit (Dsk ∷ Mta ∷ Lpt ∷ Ptr ∷ Ptp ∷ Clk ∷ Tti ∷ Tto ∷ Tti1 ∷ Tto1 ∷ [])
-    → AreStandard (new_machine units).units
+new-standard : (units : List UnitState) → IsStandard units → AreStandard (new_machine units).units
 unfolding new_machine reset_machine reset_devices
 new-standard units is = reset-kinds units ∙ ap kinds_of is
 
