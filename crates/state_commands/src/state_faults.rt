@@ -3,7 +3,8 @@ ghost use Rattle.state_commands.specs.StateFaults.{state_fault, save_fault, rest
 
 use command_session::CommandFault;
 use file_commands::Subject;
-use state_file::{RestoreFault, SaveFault, StateFault};
+use saved_files::{RestoreFault, SaveFault};
+use state_text::StateFault;
 
 /// The fault of a state file.
 pub fn fault_of_state(fault: StateFault) -> CommandFault

@@ -9,8 +9,8 @@ ghost use Rattle.state_text.specs.Pieces.{IsFed};
 ghost use Rattle.state_commands.specs.StateReading.{WasFed, IsReadFor, IsFedFrom, SaysOfFile, answer_of, failure_of, feeding_failures, read_failures, whole_of};
 
 use file_traits::{Failed, FileCall, FileId, Files, OpenFault, OpenMode};
-use state_file::{OutOfMemory, StateReader};
-use std::alloc::Global;
+use state_text::StateReader;
+use std::alloc::{AllocError as OutOfMemory, Global};
 use whole_files::{FailedCall, LONGEST_FILE, WholeFault};
 
 /// How many bytes are read at once.
