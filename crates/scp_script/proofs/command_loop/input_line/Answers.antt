@@ -309,6 +309,12 @@ returns-in-TooLong-clause-keeps g c =
     let files = g.F.Files.state c.args.files.now in
     subst (λ (x : CommandState). AreKept notes x.notes files files) (sym c.read_paid.ensures.rest) (kept-none notes files)
 
+pub returns-in-Unpaid-clause-keeps : goal.returns-in-Unpaid-clause-keeps
+returns-in-Unpaid-clause-keeps g c =
+    let notes = c.args.session.now.notes in
+    let files = g.F.Files.state c.args.files.now in
+    subst (λ (x : CommandState). AreKept notes x.notes files files) (sym c.read_paid.ensures.rest) (kept-none notes files)
+
 -- ---- what was spent, and on what
 
 pub returns-in-Line-clause-ends : goal.returns-in-Line-clause-ends
