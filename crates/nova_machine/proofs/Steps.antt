@@ -25,7 +25,8 @@ use Rattle.nova_machine.specs.declared.machine.Stop.{Stop}
 use Rattle.nova_machine.specs.declared.machine.Stop.TheVariants.{ChainLimit}
 use Rattle.nova_machine.specs.declared.service.Hosted.{Hosted}
 use Rattle.nova_machine.specs.declared.service.Hosted.TheVariants.{Gets, Stops}
-use Rattle.nova_machine.specs.Machine.{MachineState}
+use Rattle.unit_files.proofs.InStep.{covers-same}
+use Rattle.nova_machine.specs.Machine.{MachineState, attached_files}
 use Rattle.nova_machine.specs.Turned.{Turned, goes_on}
 use Rattle.nova_machine.specs.Turn.{interrupt}
 use Rattle.nova_machine.specs.OnLines.{IsOfLine}
@@ -184,9 +185,11 @@ keyless-made keys watch m keyless =
           let key : first_key (due_send m.time watch.sends) (due_key keys m.taken m.time) ≡ None = ap (λ (o : Option ℕ). first_key o (due_key keys m.taken m.time)) keyless.0 ∙ keyless.1 in
           (ap (λ (o : Option ℕ). answer_to None a [] o want.Key) key, ap key_stop key);
       memory = m.processor.memory;
+      marks = m.marks;
+      covers = covers-same (attached_files m) (attached_files m) refl refl;
       done_is =
-          sym (ap (λ (o : Option ℕ). worked m.processor.memory (typed_key o (due_key keys m.taken m.time)) a want.Key m) keyless.0
-          ∙ ap (λ (o : Option ℕ). worked m.processor.memory o a want.Key m) keyless.1);
+          sym (ap (λ (o : Option ℕ). worked m.processor.memory m.marks (typed_key o (due_key keys m.taken m.time)) a want.Key m) keyless.0
+          ∙ ap (λ (o : Option ℕ). worked m.processor.memory m.marks o a want.Key m) keyless.1);
       watched = sym (ap (λ (l : List Send). record watch { sends = l }) (none-sent m.time watch.sends keyless.0));
     }
 

@@ -10,6 +10,7 @@ use Rattle.unit_trait.specs.declared.calls.TapeOrder.{TapeOrder}
 use Rattle.unit_trait.specs.declared.calls.Got.{Got}
 use Rattle.unit_trait.specs.declared.calls.Got.TheVariants as got
 use Rattle.unit_files.specs.Attachments.{Attachment, attachment_at}
+use Rattle.unit_files.specs.InStep.{MarksCover}
 use Rattle.event_queue.specs.EventList.{due, served}
 use Rattle.telnet_lines.specs.Line.{LineOf}
 use Rattle.expect_actions.specs.Breaks.{stop_at, after_test}
@@ -24,7 +25,7 @@ use Rattle.nova_machine.specs.declared.machine.Stop.TheVariants.{ChainLimit, Bre
 use Rattle.nova_machine.specs.declared.machine.Stop.TheVariants as stop
 use Rattle.nova_machine.specs.declared.service.Hosted.{Hosted}
 use Rattle.nova_machine.specs.declared.service.Hosted.TheVariants.{Gets, Wru, Matched, Stops}
-use Rattle.nova_machine.specs.Machine.{MachineState}
+use Rattle.nova_machine.specs.Machine.{MachineState, attached_files}
 use Rattle.nova_machine.specs.Seen.{attached_in}
 use Rattle.nova_machine.specs.Turned.{Turned, stops}
 use Rattle.nova_machine.specs.Wants.{first_key, typed_key}
@@ -39,10 +40,10 @@ use Rattle.nova_machine.specs.Bursts.{Bursts}
 -- ---- one service
 
 -- What a unit wants was done that has this attachment, where this typed key comes: as it is defined, but that the memory
--- behind an operation on a tape is that.
-abbrev pub worked : MemoryState → Option ℕ → Option Attachment → Want → MachineState → MachineState
-worked memory key a (want.Tape order) m = record m { processor = record m.processor { memory = memory } }
-worked memory key a other m = done_for None key a [] other m
+-- behind an operation on a tape is that, and that these pages of the disk's copy are marked.
+abbrev pub worked : MemoryState → List Bool → Option ℕ → Option Attachment → Want → MachineState → MachineState
+worked memory marks key a (want.Tape order) m = record m { processor = record m.processor { memory = memory }; marks = marks }
+worked memory marks key a other m = record (done_for None key a [] other m) { marks = marks }
 
 -- A file that is read gives a byte, or has ended, or the call has failed; where none is attached there is none.
 abbrev pub IsByteAnswer : Option Attachment → Hosted → Type 0
@@ -76,7 +77,9 @@ IsAnswer w a key expects made = IsHosted w a [] key expects made
 pub record IsMade (keys : List (ℕ × ℕ)) (unit : UnitName) (w : Want) (watch watch' : WatchState) (m done : MachineState) (made : Hosted) : Type 0 where
   pub answer : IsAnswer w (attachment_at (attached_in m) unit) (first_key (due_send m.time watch.sends) (due_key keys m.taken m.time)) watch.expects made
   pub memory : MemoryState
-  pub done_is : done ≡ worked memory (typed_key (due_send m.time watch.sends) (due_key keys m.taken m.time)) (attachment_at (attached_in m) unit) w m
+  pub marks : List Bool
+  pub covers : MarksCover (attached_files m) (attached_files done)
+  pub done_is : done ≡ worked memory marks (typed_key (due_send m.time watch.sends) (due_key keys m.taken m.time)) (attachment_at (attached_in m) unit) w m
   pub watched : watch' ≡ watch_behind m.time w made watch
 
 -- the unit is answered, but where a call has failed, an image is bad or the console has refused a byte

@@ -236,6 +236,8 @@ impl<U: Unit> Machine<U> {
     ghost use Rattle.nova_machine.specs.StopCauses.{IsMadeOf, IsPastRoom};
     ghost use Rattle.nova_machine.specs.Service.{done_for};
     ghost use Rattle.nova_machine.specs.Steps.{IsAnswer, worked};
+    ghost use Rattle.nova_machine.specs.Machine.{attached_files};
+    ghost use Rattle.unit_files.specs.InStep.{MarksCover};
 
     /// Does what a unit wants of the machine.
     fn host<S: Sink, F: Files>(
@@ -250,9 +252,10 @@ impl<U: Unit> Machine<U> {
         requires number { unit.unit < units_of unit.kind }
         requires open { AllOpen self.old.slots (F.state files.old).opened }
         requires kind { CanBeHosted want unit.kind }
-        ensures machine { AreTold F.tells self.old.slots → self.new ≡ done_for (failure_of_stop (stop_in result))
+        ensures machine { AreTold F.tells self.old.slots → self.new ≡ record (done_for (failure_of_stop (stop_in result))
             (typed_key (due_send self.old.time watch.old.sends) (due_key keys.now self.old.taken self.old.time))
-            (attachment_at (attached_in self.old) unit) (F.state files.old).files want self.old }
+            (attachment_at (attached_in self.old) unit) (F.state files.old).files want self.old) { marks = self.new.marks } }
+        ensures covers { MarksCover (attached_files self.old) (attached_files self.new) }
         ensures watch { watch.new ≡ watch_behind self.old.time want result watch.old }
         ensures slots { self.new.slots ≡ self.old.slots }
         ensures lines { self.new.lines ≡ self.old.lines }
@@ -284,7 +287,7 @@ impl<U: Unit> Machine<U> {
         ensures answer { IsAnswer want (attachment_at (attached_in self.old) unit)
             (first_key (due_send self.old.time watch.old.sends) (due_key keys.now self.old.taken self.old.time))
             watch.old.expects result }
-        ensures work { self.new ≡ worked self.new.processor.memory
+        ensures work { self.new ≡ worked self.new.processor.memory self.new.marks
             (typed_key (due_send self.old.time watch.old.sends) (due_key keys.now self.old.taken self.old.time))
             (attachment_at (attached_in self.old) unit) want self.old }
     {

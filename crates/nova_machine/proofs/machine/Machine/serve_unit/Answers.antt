@@ -303,7 +303,7 @@ returns-in-Gets-clause-steps g c =
     let made = Gets c.in-Gets.got in
     let asks = (c.in-None.ensures.none refl).0 ∙ c.ask-want.ensures.machine in
     let work : IsMade c.args.keys.now c.args.unit w c.args.watch.now c.host.new.watch c.on_line.new.self c.host.new.self made =
-    record { answer = e.answer; memory = c.host.new.self.processor.memory; done_is = e.work; watched = e.watch } in
+    record { answer = e.answer; memory = c.host.new.self.processor.memory; marks = c.host.new.self.marks; covers = e.covers; done_is = e.work; watched = e.watch } in
     inl (record {
       done = c.host.new.self;
       made = made;
@@ -318,7 +318,7 @@ returns-in-Wru-clause-steps g c =
     let made = hosted.Wru in
     let asks = (c.in-None.ensures.none refl).0 ∙ c.ask-want.ensures.machine in
     let work : IsMade c.args.keys.now c.args.unit w c.args.watch.now c.host.new.watch c.on_line.new.self c.host.new.self made =
-    record { answer = e.answer; memory = c.host.new.self.processor.memory; done_is = e.work; watched = e.watch } in
+    record { answer = e.answer; memory = c.host.new.self.processor.memory; marks = c.host.new.self.marks; covers = e.covers; done_is = e.work; watched = e.watch } in
     inl (record {
       done = c.host.new.self;
       made = made;
@@ -333,7 +333,7 @@ returns-in-Matched-clause-steps g c =
     let made = hosted.Matched c.in-Matched.place in
     let asks = (c.in-None.ensures.none refl).0 ∙ c.ask-want.ensures.machine in
     let work : IsMade c.args.keys.now c.args.unit w c.args.watch.now c.host.new.watch c.on_line.new.self c.host.new.self made =
-    record { answer = e.answer; memory = c.host.new.self.processor.memory; done_is = e.work; watched = e.watch } in
+    record { answer = e.answer; memory = c.host.new.self.processor.memory; marks = c.host.new.self.marks; covers = e.covers; done_is = e.work; watched = e.watch } in
     inl (record {
       done = c.host.new.self;
       made = made;
@@ -348,7 +348,7 @@ returns-in-Stops-clause-steps g c =
     let made = Stops c.in-Stops.stop in
     let asks = (c.in-None.ensures.none refl).0 ∙ c.ask-want.ensures.machine in
     let work : IsMade c.args.keys.now c.args.unit w c.args.watch.now c.host.new.watch c.on_line.new.self c.host.new.self made =
-    record { answer = e.answer; memory = c.host.new.self.processor.memory; done_is = e.work; watched = e.watch } in
+    record { answer = e.answer; memory = c.host.new.self.processor.memory; marks = c.host.new.self.marks; covers = e.covers; done_is = e.work; watched = e.watch } in
     inl (record {
       done = c.host.new.self;
       made = made;
