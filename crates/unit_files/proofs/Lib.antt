@@ -13,3 +13,4 @@ pub mod Pages
 pub mod Marks
 pub mod PageLaws
 pub mod WrittenPages
+pub mod OpeningCounts

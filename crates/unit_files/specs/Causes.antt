@@ -1,11 +1,14 @@
 -- Each failing call that is answered has raised a count in this very call: that of its file, or of openings.
-use Rattle.std.specs.Prelude.{◌≡◌, ◌≢◌, ◌⊎◌, ℕ, ◌<◌, ◌≤◌, Bool, IsTrue, List, Option, Some, None, Result, Ok, Err}
+use Rattle.std.specs.Prelude.{◌≡◌, ◌≢◌, ◌⊎◌, ℕ, ◌+◌, ◌<◌, ◌≤◌, Bool, IsTrue, List, Option, Some, None, Result, Ok, Err, if◌then◌else◌}
 use Rattle.fault_counts.specs.Faults.{raised, Rose}
 use Rattle.file_traits.specs.declared.files.FileId.{FileId}
+use Rattle.file_traits.specs.declared.files.FileCall.{FileCall}
 use Rattle.file_traits.specs.declared.files.FileCall.TheVariants.{Opening, Length, Read, Write, Closing}
 use Rattle.file_traits.specs.State.{FileState}
 use Rattle.whole_files.specs.Claims.{raised_by}
 use Rattle.unit_trait.specs.declared.kind.UnitName.{UnitName}
+use Rattle.unit_files.specs.declared.modes.AttachMode.{AttachMode}
+use Rattle.unit_files.specs.declared.modes.AttachMode.TheVariants as modes
 use Rattle.unit_files.specs.declared.faults.UnitFault.{UnitFault}
 use Rattle.unit_files.specs.declared.faults.AttachFault.{AttachFault}
 use Rattle.unit_files.specs.declared.faults.AttachFault.TheVariants as attach
@@ -101,6 +104,46 @@ AttachCause tells (Err attach.ReadOnly) unit old new = IsQuiet old new
 AttachCause tells (Err attach.TooLong) unit old new =
     ((id : FileId) × IsRefusedFile id 0 old new) × (IsTrue tells → new.open_faults ≡ old.open_faults)
 AttachCause tells (Err attach.OutOfMemory) unit old new = new.faults ≡ old.faults
+
+-- ---- how many openings failed, and how many files were opened
+
+-- whether a failed call is an opening, and how many files were opened in front of it
+abbrev pub openings_in : FileCall → ℕ
+openings_in Opening = 1
+openings_in call = 0
+
+abbrev pub files_before : FileCall → ℕ
+files_before Opening = 0
+files_before call = 1
+
+-- how many openings that failed an answer names: one that failed, and one that found no file, where names are not told
+abbrev pub openings_named : Bool → Result ℕ AttachFault → ℕ
+openings_named tells (Err attach.NoFile) = if tells then 0 else 1
+openings_named tells (Err (attach.Failed f)) = openings_in f.call
+openings_named tells result = 0
+
+-- how many files are opened, by the answer: one that is refused behind its opening is among them
+abbrev pub files_opened : Result ℕ AttachFault → ℕ
+files_opened (Ok count) = 1
+files_opened (Err attach.TooLong) = 1
+files_opened (Err (attach.Failed f)) = files_before f.call
+files_opened (Err fault) = 0
+
+-- how many more openings may have failed: a file that is made where it is not there is looked for first, and no answer
+-- names that it was not found, which counts where names are not told
+abbrev pub most_unnamed : AttachMode → Bool → ℕ
+most_unnamed modes.Any tells = if tells then 0 else 1
+most_unnamed mode tells = 0
+
+-- The count of openings has risen by just as many as the answer names, and by the one that it may not name, which is
+-- always made where the file is missing. Just as many ids were given as files were opened.
+pub record CountsAttach (mode : AttachMode) (tells : Bool) (result : Result ℕ AttachFault) (old new : FileState) : Type 0
+  where
+    pub unnamed : ℕ
+    pub few : unnamed ≤ most_unnamed mode tells
+    pub missing : result ≡ Err attach.NoFile → unnamed ≡ most_unnamed mode tells
+    pub openings : new.open_faults ≡ raised_by (unnamed + openings_named tells result) old.open_faults
+    pub ids : new.given ≡ old.given + files_opened result
 
 -- a file was opened between these two
 abbrev pub IsNewId : FileState → FileState → ℕ → Type 0

@@ -26,6 +26,7 @@ pub record IsNewlyOpen (old new : FileState) (name : List ℕ) (mode : AttachMod
   pub reading : is_reading how ≡ is_read_only mode
   pub opened : new.opened ≡ record { file = file; name = name; mode = how } ∷ old.opened
   pub fresh : opened_at old.opened file ≡ None
+  pub next : file ≡ old.given
   pub rising : old.given ≤ file
   pub given : new.given ≡ file + 1
   pub counts : new.faults ≡ old.faults

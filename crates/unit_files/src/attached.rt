@@ -11,7 +11,7 @@ ghost use Rattle.unit_files.specs.Acts.{detach_said, detached_by, buffer_left, f
 ghost use Rattle.unit_files.specs.Answers.{said_of_attach, failure_of_attach, first_refusal, IfNoMemory};
 ghost use Rattle.unit_files.specs.Answers.{said_of_detach, failure_of_detach, said_of_flush, failure_of_flush};
 ghost use Rattle.unit_files.specs.Open.{AllOpen, Around, HaveOwnNumbers, IsFree};
-ghost use Rattle.unit_files.specs.Causes.{OnlyNewCounts, AttachCause, DetachCause, FlushCause, OnlyKept, AreFrom};
+ghost use Rattle.unit_files.specs.Causes.{OnlyNewCounts, AttachCause, CountsAttach, DetachCause, FlushCause, OnlyKept, AreFrom};
 ghost use Rattle.unit_files.specs.Shapes.{CloseCause, WriteCause, IsPart};
 ghost use Rattle.unit_files.specs.Acts.{detached, is_due_back, written_back};
 ghost use Rattle.unit_files.specs.Answers.{failure_in};
@@ -75,7 +75,7 @@ impl Attached {
     /// `Failed` of the opening; `Failed` of the length; `TooLong`; `Failed` of a read, which the disk alone makes: it
     /// reads the file whole, into memory that it takes before the opening. A refusal leaves all units as they were, and
     /// closes the file that it opened; that file may have been made or emptied.
-    #[tactic(auto, unfolding(crate::specs::Acts::attach_said, crate::specs::Acts::attach_files))]
+    #[tactic(auto, using(crate::proofs::OpeningCounts::counts_untried), unfolding(crate::specs::Acts::attach_said, crate::specs::Acts::attach_files))]
     pub fn attach<F: Files>(
         &mut self,
         alloc: Global,
@@ -112,6 +112,7 @@ impl Attached {
         ensures from { AreFrom self.old.slots self.new.slots (F.state files.old) (F.state files.new) }
         ensures counts { OnlyNewCounts (F.state files.old) (F.state files.new) }
         ensures cause { AttachCause F.tells result unit (F.state files.old) (F.state files.new) }
+        ensures exact { CountsAttach mode F.tells result (F.state files.old) (F.state files.new) }
     {
         if self.held_file(unit).is_some() {
             return Err(AttachFault::AlreadyAttached);

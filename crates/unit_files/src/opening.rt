@@ -8,7 +8,7 @@ ghost use Rattle.unit_files.specs.Acts.{failure_at, measured, opening_said};
 ghost use Rattle.unit_files.specs.Acts.{files_unless_opening};
 ghost use Rattle.unit_files.specs.View.{IsEmptyCopy, IsNewCopy, IsNoCopy};
 ghost use Rattle.unit_files.specs.Answers.{said_of_attach, failure_of_attach, first_refusal, IfNoMemory};
-ghost use Rattle.unit_files.specs.Causes.{AttachCause, OnlyNewCounts};
+ghost use Rattle.unit_files.specs.Causes.{AttachCause, CountsAttach, OnlyNewCounts};
 ghost use Rattle.unit_files.specs.Opening.{OpensFor, CountsOpenings, CountsOneOrTwo, IsNewlyOpen, length_of, fault_of_opening, MeasureCause};
 ghost use Rattle.unit_files.specs.Opening.{ClosedCause};
 ghost use Rattle.unit_files.specs.Opening.{OnlyCountOf, HasLength, LengthCause, failed_at};
@@ -210,6 +210,7 @@ pub(crate) fn take_file<F: Files>(
     ensures closed { OnErr result ((F.state files.new).opened ≡ (F.state files.old).opened) }
     ensures counts { OnlyNewCounts (F.state files.old) (F.state files.new) }
     ensures cause { AttachCause F.tells (length_of result) unit (F.state files.old) (F.state files.new) }
+    ensures exact { CountsAttach mode F.tells (length_of result) (F.state files.old) (F.state files.new) }
 {
     match open_for(alloc, name, mode, files) {
         Ok(file) => match measure_or_close(unit, file, &mut copy, files) {
