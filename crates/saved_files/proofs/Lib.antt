@@ -6,3 +6,4 @@ pub mod GivingBackLemmas
 pub mod RestoreCounts
 pub mod SavingLaws
 pub mod ClosingOnce
+pub mod RestoreOpenings

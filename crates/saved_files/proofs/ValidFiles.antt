@@ -10,13 +10,13 @@ use Rattle.std.proofs.lemmas.Bool.Decides.{nat_tests}
 use Rattle.unit_trait.specs.declared.kind.Kind.{Kind}
 use Rattle.unit_trait.specs.Kinds.{takes_file, units_of}
 use Rattle.unit_trait.proofs.EveryKind.{every-kind}
-use Rattle.unit_files.specs.Attachments.{takes_files, takes_attachment, file_place}
+use Rattle.unit_files.specs.Attachments.{takes_files, takes_attachment, file_place, file_units}
 use Rattle.unit_files.specs.Attachments.{only_writes as writes_only}
 use Rattle.saved_session.specs.Parts.{FilePart}
 use Rattle.saved_session.specs.Ranges.{kind_at, FilePlace, only_writes, is_flag, is_name_length}
-use Rattle.saved_session.specs.Order.{behind_file}
+use Rattle.saved_session.specs.Order.{behind_file, place_of}
 use Rattle.saved_files.specs.RestoringOne.{CanAttach, AreOfTwo, AreApart}
-use Rattle.saved_session.specs.Valid.{Follow, IsFile}
+use Rattle.saved_session.specs.Valid.{Follow, IsFile, AreFiles}
 
 -- ---- each can be attached
 
@@ -177,3 +177,90 @@ all-apart least (f ∷ fs) each =
       others-apart least f fs (can-attach least f each.0) (each-can next fs each.1) (all-from next fs each.1),
       all-apart next fs each.1,
     )
+
+-- ---- there are no more of them than units that can have one
+
+-- the place of a unit among those that can have a file, by its position and number
+IsAmong : ℕ → ℕ → ℕ → Type 0
+IsAmong position unit place =
+    ((position ≡ 0) × (unit ≡ 0) × (place ≡ 0)) ⊎ ((position ≡ 1) × (unit < 8) × (place ≡ 1 + unit))
+    ⊎ ((1 < position) × (unit ≡ 0) × (place ≡ 7 + position))
+
+first-among : (unit : ℕ) → nat_lt unit 1 ≡ true → (place : ℕ) × (place < 12) × IsAmong 0 unit place
+unfolding IsAmong
+first-among unit few =
+    let none : unit ≡ 0 = grind (arith, nat_tests) in
+    (0, omega arith, inl (refl, none, refl))
+
+tape-among : (unit : ℕ) → nat_lt unit 8 ≡ true → (place : ℕ) × (place < 12) × IsAmong 1 unit place
+unfolding IsAmong
+tape-among unit few =
+    let some : unit < 8 = grind (arith, nat_tests) in
+    (1 + unit, omega (arith, some), inr (inl (refl, some, refl)))
+
+paper-among : (position unit : ℕ) → 1 < position → position < 5 → nat_lt unit 1 ≡ true
+    → (place : ℕ) × (place < 12) × IsAmong position unit place
+unfolding IsAmong
+paper-among position unit low high few =
+    let none : unit ≡ 0 = grind (arith, nat_tests) in
+    (7 + position, omega (arith, high), inr (inr (low, none, refl)))
+
+among : (position unit : ℕ) → IsTrue (takes_attachment (record { kind = kind_at position; unit = unit }))
+    → (place : ℕ) × (place < 12) × IsAmong position unit place
+unfolding kind_at
+among zero unit takes = first-among unit takes
+among (suc zero) unit takes = tape-among unit takes
+among (suc (suc zero)) unit takes = paper-among 2 unit (omega arith) (omega arith) takes
+among (suc (suc (suc zero))) unit takes = paper-among 3 unit (omega arith) (omega arith) takes
+among (suc (suc (suc (suc zero)))) unit takes = paper-among 4 unit (omega arith) (omega arith) takes
+among (suc (suc (suc (suc (suc zero))))) unit takes = absurd cc
+among (suc (suc (suc (suc (suc (suc zero)))))) unit takes = absurd cc
+among (suc (suc (suc (suc (suc (suc (suc zero))))))) unit takes = absurd cc
+among (suc (suc (suc (suc (suc (suc (suc (suc zero)))))))) unit takes = absurd cc
+among (suc (suc (suc (suc (suc (suc (suc (suc (suc zero))))))))) unit takes = absurd cc
+among (suc (suc (suc (suc (suc (suc (suc (suc (suc (suc zero)))))))))) unit takes = absurd cc
+among (suc (suc (suc (suc (suc (suc (suc (suc (suc (suc (suc n))))))))))) unit takes = absurd cc
+
+-- the unit of a later file has a later place
+rising : (p u m q v n : ℕ) → IsAmong p u m → IsAmong q v n → (p < q) ⊎ ((p ≡ q) × (u + 1 ≤ v)) → m < n
+unfolding IsAmong
+rising p u m q v n (inl (fp, fu, fn)) (inl (gp, gu, gn)) (inl a) = omega (arith, fp, fu, fn, gp, gu, gn, a)
+rising p u m q v n (inl (fp, fu, fn)) (inl (gp, gu, gn)) (inr a) = let same = a.0 in let later = a.1 in omega (arith, fp, fu, fn, gp, gu, gn, same, later)
+rising p u m q v n (inl (fp, fu, fn)) (inr (inl (gp, gu, gn))) (inl a) = omega (arith, fp, fu, fn, gp, gu, gn, a)
+rising p u m q v n (inl (fp, fu, fn)) (inr (inl (gp, gu, gn))) (inr a) = let same = a.0 in let later = a.1 in omega (arith, fp, fu, fn, gp, gu, gn, same, later)
+rising p u m q v n (inl (fp, fu, fn)) (inr (inr (gp, gu, gn))) (inl a) = omega (arith, fp, fu, fn, gp, gu, gn, a)
+rising p u m q v n (inl (fp, fu, fn)) (inr (inr (gp, gu, gn))) (inr a) = let same = a.0 in let later = a.1 in omega (arith, fp, fu, fn, gp, gu, gn, same, later)
+rising p u m q v n (inr (inl (fp, fu, fn))) (inl (gp, gu, gn)) (inl a) = omega (arith, fp, fu, fn, gp, gu, gn, a)
+rising p u m q v n (inr (inl (fp, fu, fn))) (inl (gp, gu, gn)) (inr a) = let same = a.0 in let later = a.1 in omega (arith, fp, fu, fn, gp, gu, gn, same, later)
+rising p u m q v n (inr (inl (fp, fu, fn))) (inr (inl (gp, gu, gn))) (inl a) = omega (arith, fp, fu, fn, gp, gu, gn, a)
+rising p u m q v n (inr (inl (fp, fu, fn))) (inr (inl (gp, gu, gn))) (inr a) = let same = a.0 in let later = a.1 in omega (arith, fp, fu, fn, gp, gu, gn, same, later)
+rising p u m q v n (inr (inl (fp, fu, fn))) (inr (inr (gp, gu, gn))) (inl a) = omega (arith, fp, fu, fn, gp, gu, gn, a)
+rising p u m q v n (inr (inl (fp, fu, fn))) (inr (inr (gp, gu, gn))) (inr a) = let same = a.0 in let later = a.1 in omega (arith, fp, fu, fn, gp, gu, gn, same, later)
+rising p u m q v n (inr (inr (fp, fu, fn))) (inl (gp, gu, gn)) (inl a) = omega (arith, fp, fu, fn, gp, gu, gn, a)
+rising p u m q v n (inr (inr (fp, fu, fn))) (inl (gp, gu, gn)) (inr a) = let same = a.0 in let later = a.1 in omega (arith, fp, fu, fn, gp, gu, gn, same, later)
+rising p u m q v n (inr (inr (fp, fu, fn))) (inr (inl (gp, gu, gn))) (inl a) = omega (arith, fp, fu, fn, gp, gu, gn, a)
+rising p u m q v n (inr (inr (fp, fu, fn))) (inr (inl (gp, gu, gn))) (inr a) = let same = a.0 in let later = a.1 in omega (arith, fp, fu, fn, gp, gu, gn, same, later)
+rising p u m q v n (inr (inr (fp, fu, fn))) (inr (inr (gp, gu, gn))) (inl a) = omega (arith, fp, fu, fn, gp, gu, gn, a)
+rising p u m q v n (inr (inr (fp, fu, fn))) (inr (inr (gp, gu, gn))) (inr a) = let same = a.0 in let later = a.1 in omega (arith, fp, fu, fn, gp, gu, gn, same, later)
+
+-- from a place on
+IsBehind : ℕ → FilePlace → Type 0
+IsBehind bound least = (g : FilePart) (place : ℕ) → IsFrom least g → IsAmong g.position g.unit place → bound ≤ place
+
+fewer : (bound : ℕ) (least : FilePlace) (fs : List FilePart) → bound ≤ 12 → IsBehind bound least
+    → Follow IsFile behind_file least fs → length fs + bound ≤ 12
+unfolding IsFrom IsBehind
+fewer bound least [] within behind each = omega (arith, within)
+fewer bound least (f ∷ fs) within behind each =
+    let here = among f.position f.unit (can-attach least f each.0).unit in
+    let low = behind f here.0 (first-from least f each.0) here.2 in
+    let high = here.1 in
+    let others = fewer (here.0 + 1) (behind_file least f) fs (omega (arith, high)) (λ g place from is.
+    let more = rising f.position f.unit here.0 g.position g.unit place here.2 is from in omega (arith, more)) each.1 in
+    omega (arith, others, low)
+
+pub few-files : (fs : List FilePart) → AreFiles fs → length fs ≤ file_units
+unfolding IsBehind
+few-files fs valid =
+    let few = fewer 0 (place_of 0 0) fs (omega arith) (λ g place from is. omega arith) valid.each in
+    omega (arith, few)

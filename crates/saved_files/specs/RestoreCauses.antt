@@ -1,15 +1,16 @@
 -- A failed call that is answered where the files of a saved session are attached has raised a count in this very call:
 -- that of its file, which was opened in it, or of openings. The closing of a file that is given back is told by its count
 -- alone.
-use Rattle.std.specs.Prelude.{◌≡◌, ◌⊎◌, ℕ, ◌<◌, ◌==◌, Bool, false, IsTrue, List, Option, Some, None, Result, Ok, Err, if◌then◌else◌}
+use Rattle.std.specs.Prelude.{◌≡◌, ◌⊎◌, ℕ, ◌+◌, ◌<◌, ◌≤◌, ◌==◌, Bool, false, IsTrue, List, Option, Some, None, Result, Ok, Err, OnOk, if◌then◌else◌}
 use Rattle.fault_counts.specs.Faults.{raised, Rose}
 use Rattle.file_traits.specs.declared.files.FileId.{FileId}
 use Rattle.file_traits.specs.declared.files.FileCall.TheVariants.{Opening, Length, Read}
 use Rattle.file_traits.specs.State.{FileState}
+use Rattle.whole_files.specs.Claims.{raised_by}
 use Rattle.unit_files.specs.declared.faults.UnitFault.{UnitFault}
 use Rattle.unit_trait.specs.declared.kind.UnitName.{UnitName}
 use Rattle.unit_files.specs.Attachments.{Held, held_at}
-use Rattle.unit_files.specs.Causes.{AtMostOnceMore, IsNewId}
+use Rattle.unit_files.specs.Causes.{AtMostOnceMore, IsNewId, openings_in}
 use Rattle.saved_files.specs.declared.file_faults.RestoreFault.{RestoreFault}
 use Rattle.saved_files.specs.declared.file_faults.RestoreFault.TheVariants as fault
 
@@ -85,3 +86,19 @@ HaveGivenNumbers slots s = (unit : UnitName) (h : Held) → held_at slots unit �
 abbrev pub IsCompared : Bool → Result (Unit {0}) RestoreFault → Type 0
 IsCompared force (Err (fault.Changed unit)) = force ≡ false
 IsCompared force answer = Unit {0}
+
+-- ---- how many openings failed, and how many files were opened
+
+-- how many openings that failed an answer names: one that failed, and one that found no file, where names are not told
+abbrev pub openings_named : Bool → Result (Unit {0}) RestoreFault → ℕ
+openings_named tells (Err (fault.NoFile unit)) = if tells then 0 else 1
+openings_named tells (Err (fault.Failed f)) = openings_in f.call
+openings_named tells answer = 0
+
+-- The count of openings has risen by just as many as the answer names: each file is opened in one call. Where all of so
+-- many files were attached, just as many ids were given, and where one was refused, no more.
+pub record OpensEach (tells : Bool) (all : ℕ) (answer : Result (Unit {0}) RestoreFault) (old new : FileState) : Type 0
+  where
+    pub openings : new.open_faults ≡ raised_by (openings_named tells answer) old.open_faults
+    pub given : OnOk answer (new.given ≡ old.given + all)
+    pub most : new.given ≤ old.given + all

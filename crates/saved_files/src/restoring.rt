@@ -1,6 +1,6 @@
 // The files that a saved session names: each is attached and compared, all of them or none.
 ghost use Rattle.std.specs.Prelude.{◌≡◌, ◌≢◌, List, IsTrue, Ok, OnOk, OnErr, IfErr, false, true, Some, None, is_some};
-ghost use Rattle.std.specs.Prelude.{Bool, if◌then◌else◌};
+ghost use Rattle.std.specs.Prelude.{Bool, length, if◌then◌else◌};
 ghost use Rattle.std.specs.List.{AllByRecursion};
 ghost use Rattle.file_traits.specs.Lists.{bytes_of};
 ghost use Rattle.file_traits.specs.State.{Opened};
@@ -17,7 +17,7 @@ ghost use Rattle.saved_files.specs.Restoring.{files_in, unit_of, is_only_read, m
 ghost use Rattle.saved_files.specs.Restoring.{copy_of, first_refused, claim_in, Says, IsOfThese};
 ghost use Rattle.saved_files.specs.RestoringOne.{CanAttach, IsFree, AreApart, IsClean, IsAsRead, IsOf, failure_of, SaysOne};
 ghost use Rattle.saved_files.specs.RestoringOne.{Attaches, Compares, CompareCalls, CompareCause, OnlyItsCount};
-ghost use Rattle.saved_files.specs.RestoreCauses.{ClosesOnce, ClosesOthers, HaveGivenNumbers, IsCompared, RestoreCause};
+ghost use Rattle.saved_files.specs.RestoreCauses.{ClosesOnce, ClosesOthers, HaveGivenNumbers, IsCompared, OpensEach, RestoreCause};
 ghost use Rattle.saved_session.specs.Valid.{AreFiles};
 
 use crate::file_faults::RestoreFault;
@@ -99,6 +99,7 @@ fn attach_file<F: Files>(
     ensures from { AreFrom attached.old.slots attached.new.slots (F.state files.old) (F.state files.new) }
     ensures counts { OnlyNewCounts (F.state files.old) (F.state files.new) }
     ensures cause { RestoreCause F.tells result (F.state files.old) (F.state files.new) }
+    ensures exact { OpensEach F.tells 1 result (F.state files.old) (F.state files.new) }
     ensures once { HaveGivenNumbers attached.old.slots (F.state files.old)
         → ClosesOthers result attached.new.slots (F.state files.old) (F.state files.new) }
     ensures compared { (force : Bool) → IsCompared force result }
@@ -181,6 +182,7 @@ fn attach_one<F: Files>(
     ensures from { AreFrom attached.old.slots attached.new.slots (F.state files.old) (F.state files.new) }
     ensures counts { OnlyNewCounts (F.state files.old) (F.state files.new) }
     ensures cause { RestoreCause F.tells result (F.state files.old) (F.state files.new) }
+    ensures exact { OpensEach F.tells 1 result (F.state files.old) (F.state files.new) }
     ensures once { HaveGivenNumbers attached.old.slots (F.state files.old)
         → ClosesOthers result attached.new.slots (F.state files.old) (F.state files.new) }
     ensures compared { IsCompared force result }
@@ -233,6 +235,7 @@ fn attach_each<F: Files>(
     ensures from { AreFrom attached.old.slots attached.new.slots (F.state files.old) (F.state files.new) }
     ensures counts { OnlyNewCounts (F.state files.old) (F.state files.new) }
     ensures cause { RestoreCause F.tells result (F.state files.old) (F.state files.new) }
+    ensures exact { OpensEach F.tells (length (files_in saved.now)) result (F.state files.old) (F.state files.new) }
     ensures once { HaveGivenNumbers attached.old.slots (F.state files.old)
         → ClosesOthers result attached.new.slots (F.state files.old) (F.state files.new) }
     ensures compared { IsCompared force result }
@@ -284,6 +287,7 @@ pub fn attach_all<F: Files>(
     ensures from { AreFrom attached.old.slots attached.new.slots (F.state files.old) (F.state files.new) }
     ensures counts { OnlyNewCounts (F.state files.old) (F.state files.new) }
     ensures cause { RestoreCause F.tells result (F.state files.old) (F.state files.new) }
+    ensures exact { OpensEach F.tells (length (files_in saved.now)) result (F.state files.old) (F.state files.new) }
     ensures once { ClosesOnce result (F.state files.old) (F.state files.new) }
     ensures compared { IsCompared force result }
 {

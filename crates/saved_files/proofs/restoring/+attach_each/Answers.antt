@@ -1,10 +1,10 @@
-use Rattle.std.proofs.Common.{Option, Some, None, Ok, Err, refl, sym, ap, subst, ◌∙◌, rules, List}
+use Rattle.std.proofs.Common.{Option, Some, None, Ok, Err, refl, sym, ap, subst, ◌∙◌, rules, List, length}
 use Rattle.std.proofs.lemmas.Result.{err_from_is_err_and}
 use Rattle.unit_trait.specs.declared.kind.UnitName.{UnitName}
 use Rattle.unit_files.specs.Attachments.{Attachment, attachments_of, file_place, is_disk}
 use Rattle.unit_files.specs.Buffer.{Buffer}
 use Rattle.unit_files.specs.Acts.{detached}
-use Rattle.saved_session.specs.Parts.{file_in}
+use Rattle.saved_session.specs.Parts.{FilePart, file_in}
 use Rattle.saved_files.specs.Restoring.{files_in, unit_of, attachment_of}
 use Rattle.saved_files.specs.RestoringOne.{CanAttach, IsFree, IsClean}
 use Rattle.saved_files.proofs.Attaching.{set-back}
@@ -14,6 +14,7 @@ use Rattle.saved_files.proofs.GivingBackLemmas.{all-held}
 use Rattle.saved_files.proofs.RestoreCounts.{cause-behind, from-both, new-counts, new-counts-behind}
 use Rattle.saved_files.specs.RestoringOne.{OnlyItsCount}
 use Rattle.saved_files.proofs.ClosingOnce.{closed-behind, closed-since, given-then, same-closed}
+use Rattle.saved_files.proofs.RestoreOpenings.{opens-none, opens-first, opens-all}
 use Rattle.saved_files.proofs.restoring.+attach_each.Goals as goal
 
 pub returns-in-None-clause-told : goal.returns-in-None-clause-told
@@ -159,3 +160,35 @@ returns-in-Err-clause-cause g t c =
     cause-behind g.F.Files.tells (state c.args.files.now) (state c.attach_one.new.files) (state c.attach_each.new.files)
     (state c.give_back.new.files) first.cause first.counts c.in-Err.ensures.counts back.later back.openings back.ids
     c.in-Err.fault c.in-Err.ensures.cause
+
+pub returns-in-None-clause-exact : goal.returns-in-None-clause-exact
+returns-in-None-clause-exact g t c =
+    opens-none g.F.Files.tells (length (files_in c.args.saved.now)) (g.F.Files.state c.args.files.now)
+    (ap (λ (l : List FilePart). length l) (ap files_in (none-in c.args.saved.now c.in-None.ensures.cases)))
+
+pub returns-in_err-attach_one-in-Some-clause-exact : goal.returns-in_err-attach_one-in-Some-clause-exact
+returns-in_err-attach_one-in-Some-clause-exact g t c =
+    let state = g.F.Files.state in
+    let p = err_from_is_err_and c.from_residual.result c.from_residual.ensures.1 in
+    let all = all-of c.args.saved.now c.in-Some.first.now c.in-Some.others.now c.in-Some.ensures.cases.0 in
+    rw (p.1, p.2) (opens-first g.F.Files.tells (file_in c.in-Some.first.now) (files_in c.in-Some.others.now)
+    (files_in c.args.saved.now) c.in_err-attach_one-in-Some.field-0.0 (state c.args.files.now)
+    (state c.attach_one.new.files) all c.in_err-attach_one-in-Some.ensures.exact)
+
+pub returns-in-Ok-clause-exact : goal.returns-in-Ok-clause-exact
+returns-in-Ok-clause-exact g t c =
+    let state = g.F.Files.state in
+    let all = all-of c.args.saved.now c.in-Some.first.now c.in-Some.others.now c.in-Some.ensures.cases.0 in
+    opens-all g.F.Files.tells (file_in c.in-Some.first.now) (files_in c.in-Some.others.now) (files_in c.args.saved.now)
+    (Ok tt) (state c.args.files.now) (state c.attach_one.new.files) (state c.attach_each.new.files)
+    (state c.attach_each.new.files) all c.in_ok-attach_one-in-Some.ensures.exact c.in-Ok.ensures.exact refl refl
+
+pub returns-in-Err-clause-exact : goal.returns-in-Err-clause-exact
+returns-in-Err-clause-exact g t c =
+    let state = g.F.Files.state in
+    let all = all-of c.args.saved.now c.in-Some.first.now c.in-Some.others.now c.in-Some.ensures.cases.0 in
+    let back = c.give_back.ensures.count in
+    opens-all g.F.Files.tells (file_in c.in-Some.first.now) (files_in c.in-Some.others.now) (files_in c.args.saved.now)
+    (Err c.in-Err.fault) (state c.args.files.now) (state c.attach_one.new.files) (state c.attach_each.new.files)
+    (state c.give_back.new.files) all c.in_ok-attach_one-in-Some.ensures.exact c.in-Err.ensures.exact back.openings
+    back.ids

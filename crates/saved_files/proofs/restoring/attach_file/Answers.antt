@@ -1,6 +1,7 @@
-use Rattle.std.proofs.Common.{Some, None, Err, refl, sym, ap, subst, ◌∙◌, rules}
+use Rattle.std.proofs.Common.{Some, None, Ok, Err, refl, sym, ap, subst, ◌∙◌, rules}
 use Rattle.unit_trait.specs.declared.kind.UnitName.{UnitName}
 use Rattle.unit_files.specs.Attachments.{attachments_of, is_disk}
+use Rattle.unit_files.specs.declared.faults.AttachFault.TheVariants as attach
 use Rattle.unit_files.specs.Acts.{NotThere, TooLong, CallFailed}
 use Rattle.unit_files.specs.Answers.{failure_in}
 use Rattle.saved_session.specs.Parts.{file_in}
@@ -11,6 +12,7 @@ use Rattle.unit_files.specs.Buffer.{AttachedFiles}
 use Rattle.saved_files.specs.declared.file_faults.RestoreFault.TheVariants as fault
 use Rattle.saved_files.specs.RestoreCauses.{ClosesOthers}
 use Rattle.saved_files.proofs.ClosingOnce.{same-closed, none-closed, long-closed, failed-closed}
+use Rattle.saved_files.proofs.RestoreOpenings.{opens-one, opens-refused}
 use Rattle.saved_files.proofs.restoring.attach_file.Goals as goal
 
 pub returns-in-Ok-clause-bytes : goal.returns-in-Ok-clause-bytes
@@ -114,3 +116,32 @@ returns-in-Err-OutOfMemory-clause-once g c = λ given.
     let cause = rw c.in-Err-OutOfMemory.field-0-is at c.in-Err-OutOfMemory.ensures.cause in
     none-closed (Err fault.OutOfMemory) c.attach.new.self.slots (g.F.Files.state c.args.files.now)
     (g.F.Files.state c.attach.new.files) (λ file count. refl) cause
+
+pub returns-in-Ok-clause-exact : goal.returns-in-Ok-clause-exact
+returns-in-Ok-clause-exact g c =
+    opens-one c.mode_of.result (is_only_read (file_in c.args.file.now)) g.F.Files.tells (Ok c.in-Ok._length)
+    (g.F.Files.state c.args.files.now) (g.F.Files.state c.attach.new.files) c.mode_of.ensures c.in-Ok.ensures.exact refl refl
+
+pub returns-in-Err-NoFile-clause-exact : goal.returns-in-Err-NoFile-clause-exact
+returns-in-Err-NoFile-clause-exact g c =
+    let counts = rw c.in-Err-NoFile.field-0-is at c.in-Err-NoFile.ensures.exact in
+    opens-refused c.mode_of.result (is_only_read (file_in c.args.file.now)) g.F.Files.tells (Err attach.NoFile)
+    (g.F.Files.state c.args.files.now) (g.F.Files.state c.attach.new.files) c.mode_of.ensures counts (fault.NoFile c.unit_of-unit.result) refl
+
+pub returns-in-Err-TooLong-clause-exact : goal.returns-in-Err-TooLong-clause-exact
+returns-in-Err-TooLong-clause-exact g c =
+    let counts = rw c.in-Err-TooLong.field-0-is at c.in-Err-TooLong.ensures.exact in
+    opens-refused c.mode_of.result (is_only_read (file_in c.args.file.now)) g.F.Files.tells (Err attach.TooLong)
+    (g.F.Files.state c.args.files.now) (g.F.Files.state c.attach.new.files) c.mode_of.ensures counts (fault.TooLong c.unit_of-unit.result) refl
+
+pub returns-in-Err-Failed-clause-exact : goal.returns-in-Err-Failed-clause-exact
+returns-in-Err-Failed-clause-exact g c =
+    let counts = rw c.in-Err-Failed.field-0-is at c.in-Err-Failed.ensures.exact in
+    opens-refused c.mode_of.result (is_only_read (file_in c.args.file.now)) g.F.Files.tells (Err (attach.Failed c.in-Err-Failed.fault))
+    (g.F.Files.state c.args.files.now) (g.F.Files.state c.attach.new.files) c.mode_of.ensures counts (fault.Failed c.in-Err-Failed.fault) refl
+
+pub returns-in-Err-OutOfMemory-clause-exact : goal.returns-in-Err-OutOfMemory-clause-exact
+returns-in-Err-OutOfMemory-clause-exact g c =
+    let counts = rw c.in-Err-OutOfMemory.field-0-is at c.in-Err-OutOfMemory.ensures.exact in
+    opens-refused c.mode_of.result (is_only_read (file_in c.args.file.now)) g.F.Files.tells (Err attach.OutOfMemory)
+    (g.F.Files.state c.args.files.now) (g.F.Files.state c.attach.new.files) c.mode_of.ensures counts fault.OutOfMemory refl

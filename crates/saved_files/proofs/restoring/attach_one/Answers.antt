@@ -14,6 +14,7 @@ use Rattle.saved_files.proofs.Attaching.{forced, free-first, one-compared, set-b
 use Rattle.saved_files.proofs.Together.{set-in}
 use Rattle.saved_files.proofs.RestoreCounts.{counts-given-back, cause-compared, compared-plainly}
 use Rattle.saved_files.proofs.ClosingOnce.{closed-behind, closed-since, compared-closed, same-closed}
+use Rattle.saved_files.proofs.RestoreOpenings.{opens-then, opens-compared}
 use Rattle.saved_files.specs.RestoreCauses.{ClosesOthers}
 use Rattle.saved_files.proofs.restoring.attach_one.Goals as goal
 
@@ -126,3 +127,18 @@ returns-in-Err-clause-once g c = λ given.
     (subst (λ (a : AttachedFiles). ClosesOthers (Err c.in-Err.fault) a.slots (state c.attach_file.new.files)
     (state c.compare.new.files)) (sym c.in-Err.ensures.kept) compared)
     c.give_back.ensures.count c.give_back.ensures.kept c.give_back.ensures.once)
+
+pub returns-in-Ok-clause-exact : goal.returns-in-Ok-clause-exact
+returns-in-Ok-clause-exact g c =
+    let state = g.F.Files.state in
+    opens-then g.F.Files.tells 1 (state c.args.files.now) (state c.attach_file.new.files) (state c.compare.new.files)
+    c.in_ok-attach_file.ensures.exact c.in-Ok.ensures.cause.openings c.in-Ok.ensures.cause.ids
+
+pub returns-in-Err-clause-exact : goal.returns-in-Err-clause-exact
+returns-in-Err-clause-exact g c =
+    let state = g.F.Files.state in
+    let compared = c.in-Err.ensures.count in
+    let back = c.give_back.ensures.count in
+    opens-compared g.F.Files.tells 1 c.in-Err.fault (state c.args.files.now) (state c.attach_file.new.files)
+    (state c.give_back.new.files) c.in-Err.ensures.calls c.in_ok-attach_file.ensures.exact
+    (back.openings ∙ compared.openings) (back.ids ∙ compared.ids)
