@@ -4,7 +4,7 @@ ghost use Rattle.file_traits.specs.Lists.{bytes_of};
 ghost use Rattle.unit_files.specs.Attachments.{attachments_of, attachment_at, takes_attachment, longest_file, is_disk, IsFileName};
 ghost use Rattle.unit_files.specs.Acts.{attach_said, attach_files, attached_by, buffer_by, refused_first};
 ghost use Rattle.unit_files.specs.Acts.{detach_said, detached_by, buffer_left, flush_files};
-ghost use Rattle.unit_files.specs.Causes.{AttachCause, DetachCause};
+ghost use Rattle.unit_files.specs.Causes.{AttachCause, CountsAttach, DetachCause};
 ghost use Rattle.unit_files.specs.Answers.{said_of_attach, said_of_detach, first_refusal, IfNoMemory};
 ghost use Rattle.unit_files.specs.Open.{AllOpen, Around};
 ghost use Rattle.file_commands.specs.declared.note.Subject.TheVariants as subjects;
@@ -56,6 +56,7 @@ pub fn attach_unit<F: Files>(
     ensures own { IfSome (fault_of_attach result) (IsAttachFault unit) }
     ensures missing { MissingCause F.tells result (F.state files.old) (F.state files.new) }
     ensures cause { AttachCause F.tells result unit (F.state files.old) (F.state files.new) }
+    ensures exact { CountsAttach mode F.tells result (F.state files.old) (F.state files.new) }
     ensures whose { AreOwn attached.old.slots attached.new.slots notes.old.items notes.new.items (F.state files.old)
         (F.state files.new) }
     ensures notes { notes.new.items ≡ notes.old.items ++ kept_of stamp (fault_of_attach result) }
