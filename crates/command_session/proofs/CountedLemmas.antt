@@ -69,8 +69,17 @@ none-raised n before now same (later, inl more) =
     same ∙ ap (λ (m : ℕ). raised_by m before) (sym none)
 none-raised n before now same (later, inr end) = same ∙ sym (raised-none (n + 0) before (omega (arith, end, same)))
 
+-- the notes and the answer name all openings that failed
+pub all-named : (most : ℕ) (tells : Bool) (answer : Answer) (kept : List FaultNote) (old new : FileState)
+    → new.open_faults ≡ raised_by (openings_noted kept + one_if (is_missing answer && not tells)) old.open_faults → OpeningsAre most tells answer kept old new
+all-named most tells answer kept old new is =
+    let named : ℕ = openings_noted kept + one_if (is_missing answer && not tells) in
+    let alone : named ≡ 0 + named = omega arith in
+    record { unnoted = 0; few = omega arith; count = is ∙ ap (λ (n : ℕ). raised_by n old.open_faults) alone }
+
 pub openings-none : (tells : Bool) (answer : Answer) (kept : List FaultNote) (old new : FileState) → is_missing answer ≡ false → new.open_faults ≡ old.open_faults → AreCounted kept old new
-    → OpeningsAre false tells answer kept old new
+    → OpeningsAre 0 tells answer kept old new
 openings-none tells answer kept old new there same counted =
-    subst (λ (b : Bool). new.open_faults ≡ raised_by (openings_noted kept + one_if (b && not tells)) old.open_faults) (sym there)
-    (none-raised (openings_noted kept) old.open_faults new.open_faults same counted.openings)
+    all-named 0 tells answer kept old new
+    (subst (λ (b : Bool). new.open_faults ≡ raised_by (openings_noted kept + one_if (b && not tells)) old.open_faults) (sym there)
+    (none-raised (openings_noted kept) old.open_faults new.open_faults same counted.openings))

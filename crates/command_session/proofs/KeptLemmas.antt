@@ -11,11 +11,12 @@ use Rattle.command_session.specs.declared.next.Next.TheVariants.{Ran}
 use Rattle.command_session.specs.declared.fault.CommandFault.TheVariants.{Console, OutOfMemory, NoFile, FileTooLong, FileFailed}
 use Rattle.command_session.specs.declared.fault.CommandFault.TheVariants.{LoadTruncated, LoadSum, PastMemory, NotState, Version, BadDigest, BadField, Truncated, Changed}
 use Rattle.command_session.specs.Reply.{Answer}
-use Rattle.command_session.specs.Doing.{FileCause, Keeps, IsOfPort, is_missing}
+use Rattle.command_session.specs.Doing.{FileCause, Keeps, KeepsOwn, IsOfPort, is_missing}
 use Rattle.host_lines.specs.State.{LineState}
 use Rattle.telnet_lines.specs.Line.{LineOf}
 use Rattle.command_session.specs.LinesLeft.{LinesLeft}
 use Rattle.command_session.proofs.PortLemmas.{left-same}
+use Rattle.command_session.proofs.CountedLemmas.{all-named}
 
 -- a command does nothing to the lines
 pub lines-kept : (tells : Bool) (s : LineState) (before after : List (LineOf ℕ)) → after ≡ before → LinesLeft tells s before s after
@@ -39,7 +40,8 @@ keeps-none number time tells answer notes notes' state none own = record {
   stamped = tt;
   counted = counted-none state;
   exact = exact-none false state;
-  openings = no-opening answer own;
+  openings = all-named 0 tells answer [] state state (no-opening answer own);
+  given = omega arith;
   cause = cause answer own;
 }
   where
@@ -73,3 +75,18 @@ port-no-file (Err NoFile) own = own
 port-no-file (Err (FileFailed who)) own = own
 port-no-file (Ok (Ran (FileFault f))) own = own
 port-no-file answer own = tt
+
+-- a command that would have opened a file of its own has opened none
+pub keeps-own : (number time : ℕ) (tells : Bool) (answer : Answer) (notes notes' : List FaultNote) (old new : FileState) → Keeps number time tells answer notes notes' old new
+    → KeepsOwn number time tells answer notes notes' old new
+keeps-own number time tells answer notes notes' old new k = record {
+  kept = k.kept;
+  added = k.added;
+  few = k.few;
+  stamped = k.stamped;
+  counted = k.counted;
+  exact = k.exact;
+  openings = k.openings;
+  given = let none = k.given in omega (arith, none);
+  cause = k.cause;
+}

@@ -43,8 +43,9 @@ use Rattle.command_session.specs.WholeCalls.{is_of_whole, whole_calls, write_cal
 use Rattle.command_session.specs.WholeCalls.{call_note, call_notes, both_notes, read_notes, write_notes}
 use Rattle.command_session.specs.Refusals.{UnreadCause}
 use Rattle.command_session.specs.Doing as doing
-use Rattle.command_session.specs.Doing.{Does, Did, ComeBehind, IsStamped, IsClosingOf, AllClosings, FileCause, Keeps, IsShutNote, NotesRemain, IsPlain, IsOwn, IsExitAnswer}
+use Rattle.command_session.specs.Doing.{Does, Did, ComeBehind, IsStamped, IsClosingOf, AllClosings, FileCause, KeepsOwn, IsShutNote, NotesRemain, IsPlain, IsOwn, IsExitAnswer}
 use Rattle.command_session.proofs.CloseLemmas.{said-append, refused-first}
+use Rattle.command_session.proofs.CountedLemmas.{all-named}
 use Rattle.command_session.proofs.ReplyLemmas.{silent-does}
 
 -- ---- the calls that fail, as the command's own notes
@@ -448,7 +449,7 @@ failed-noted whose stamp done (Some f) more before = by-call f.call f.file befor
     by-call call.SetLength (Some id) before = refl
     by-call which file before = absurd before
 
-openings-are : (whose : Subject) (stamp : Stamp) (done : ℕ) (failed closing : Option FailedCall) → IsClaimed failed closing
+pub openings-are : (whose : Subject) (stamp : Stamp) (done : ℕ) (failed closing : Option FailedCall) → IsClaimed failed closing
     → openings_noted (both_notes whose stamp done failed closing) ≡ one_if (claims.is_opening failed)
 openings-are whose stamp done failed closing shape =
     let first = failed-noted whose stamp done failed (call_notes whose stamp 0 closing) shape.early in
@@ -465,6 +466,7 @@ pub record Rises (missing : Bool) (failed closing : Option FailedCall) (old new 
   pub counts : (file : ℕ) → new.faults file ≡ raised_by (claims_of failed file + claims_of closing file) (old.faults file)
   pub openings : new.open_faults ≡ (if claims.is_opening failed || missing then raised old.open_faults else old.open_faults)
   pub ids : old.given ≤ new.given
+  pub one : new.given ≤ old.given + 1
 
 -- what a call before the closing can have written, of a reading and of a writing
 pub possible-read : (whose : Subject) (failed : Option FailedCall) → IfSome failed (λ (f : FailedCall). MayHaveWritten f.call whose 0)
@@ -642,7 +644,7 @@ pub read-keeps : (whose : Subject) (number time : ℕ) (tells : Bool) (comes_to 
     → ((bytes : List ℕ) → TakesClosings (record { command = number; time = time }) tells (comes_to bytes) old new)
     → answer ≡ whole_answer whose comes_to w.bytes → HasShape w → Rises (is_missing w.bytes && not tells) w.failed w.closing old new
     → notes' ≡ notes ++ read_notes whose (record { command = number; time = time }) w
-    → Keeps number time tells answer notes notes' old new
+    → KeepsOwn number time tells answer notes notes' old new
 read-keeps whose number time tells comes_to w answer notes notes' old new takes answered shape rises noted = record {
   kept = read_notes whose stamp w;
   added = noted;
@@ -651,9 +653,11 @@ read-keeps whose number time tells comes_to w answer notes notes' old new takes 
   counted = both-counted whose stamp 0 _ w.failed w.closing old new (read-claims w shape) (possible-read whose w.failed) rises;
   exact = both-exact whose stamp 0 _ w.failed w.closing old new rises;
   openings =
-      both-openings whose stamp 0 (is_missing w.bytes && not tells) (doing.is_missing answer && not tells) w.failed w.closing old new (read-claims w shape)
+      all-named 0 tells answer (read_notes whose stamp w) old new
+      (both-openings whose stamp 0 (is_missing w.bytes && not tells) (doing.is_missing answer && not tells) w.failed w.closing old new (read-claims w shape)
       (ap (λ (b : Bool). b && not tells) (ap doing.is_missing answered ∙ missing-read whose comes_to w.bytes (λ bytes. not-missing stamp tells (comes_to bytes) old new (takes bytes))))
-      (one-read tells w.bytes w.failed shape.failed) rises;
+      (one-read tells w.bytes w.failed shape.failed) rises);
+  given = rises.one;
   cause =
       subst (λ (a : Answer). FileCause stamp tells a (read_notes whose stamp w) old new) (sym answered)
       (read-cause whose stamp tells comes_to w old new takes shape rises);
@@ -688,7 +692,7 @@ pub write-keeps : (whose : Subject) (number time : ℕ) (tells : Bool) (piece : 
     (notes notes' : List FaultNote) (old new : FileState) → answer ≡ written_answer whose w.answer → HasWriteShape piece w → IsWritten whose w.done
     → Rises (is_unmade w.answer && not tells) w.failed w.closing old new
     → notes' ≡ notes ++ write_notes whose (record { command = number; time = time }) w
-    → Keeps number time tells answer notes notes' old new
+    → KeepsOwn number time tells answer notes notes' old new
 write-keeps whose number time tells piece w answer notes notes' old new answered shape written rises noted = record {
   kept = write_notes whose stamp w;
   added = noted;
@@ -699,8 +703,10 @@ write-keeps whose number time tells piece w answer notes notes' old new answered
       rises;
   exact = both-exact whose stamp w.done _ w.failed w.closing old new rises;
   openings =
-      both-openings whose stamp w.done (is_unmade w.answer && not tells) (doing.is_missing answer && not tells) w.failed w.closing old new (write-claims piece w shape)
-      (ap (λ (b : Bool). b && not tells) (ap doing.is_missing answered ∙ missing-written whose w.answer)) (one-write tells w.answer w.failed shape.failed) rises;
+      all-named 0 tells answer (write_notes whose stamp w) old new
+      (both-openings whose stamp w.done (is_unmade w.answer && not tells) (doing.is_missing answer && not tells) w.failed w.closing old new (write-claims piece w shape)
+      (ap (λ (b : Bool). b && not tells) (ap doing.is_missing answered ∙ missing-written whose w.answer)) (one-write tells w.answer w.failed shape.failed) rises);
+  given = rises.one;
   cause =
       subst (λ (a : Answer). FileCause stamp tells a (write_notes whose stamp w) old new) (sym answered)
       (write-cause whose stamp tells piece w old new shape rises);

@@ -17,8 +17,9 @@ use Rattle.unit_trait.specs.declared.kind.Kind.{Kind}
 use Rattle.unit_trait.specs.declared.kind.UnitName.{UnitName}
 use Rattle.unit_trait.specs.Kinds.{same_unit}
 use Rattle.unit_files.specs.declared.faults.UnitFault.{UnitFault}
-use Rattle.unit_files.specs.Causes.{IsNewFault}
-use Rattle.unit_files.specs.Attachments.{Held, attachment_at, is_disk}
+use Rattle.unit_files.specs.declared.modes.AttachMode.{AttachMode}
+use Rattle.unit_files.specs.Causes.{IsNewFault, most_unnamed}
+use Rattle.unit_files.specs.Attachments.{Held, attachment_at, file_units, is_disk}
 use Rattle.file_commands.specs.declared.note.Subject.{Subject}
 use Rattle.file_commands.specs.declared.note.Subject.TheVariants as subject
 use Rattle.file_commands.specs.declared.note.FaultNote.{FaultNote}
@@ -35,7 +36,7 @@ use Rattle.nova_machine.specs.Comes.{Output, output, AreTold, FileCause as StopC
 use Rattle.nova_machine.specs.LineChanges.{heard_with, AreLinesTold, LinesGoOn}
 use Rattle.nova_machine.specs.Wants.{HasUnit}
 use Rattle.nova_machine.specs.Seen.{attached_in}
-use Rattle.scp_parser.specs.Command.{Request, Attach, Restore}
+use Rattle.scp_parser.specs.Command.{Request, Attach, Do, Dump, Load, Restore, Save}
 use Rattle.command_session.specs.declared.next.Next.{Next}
 use Rattle.command_session.specs.declared.next.Next.TheVariants.{Exit, Ran}
 use Rattle.command_session.specs.declared.fault.CommandFault.TheVariants.{Console, OutOfMemory, NoFile, FileTooLong, FileFailed, PortFailed}
@@ -45,7 +46,7 @@ use Rattle.command_session.specs.Nature.{Telling, nature}
 use Rattle.command_session.specs.Nature.Telling.{Nothing, Ported, Listening, Attached, Named, Whole}
 use Rattle.command_session.specs.Remains.{Remains, AreLeft}
 use Rattle.command_session.specs.Reply.{Answer, Reply, bare_answer}
-use Rattle.command_session.specs.FileEffects.{emptied_all, filed_live, emptied_live}
+use Rattle.command_session.specs.FileEffects.{mode_of, emptied_all, filed_live, emptied_live}
 
 -- ---- what is printed, and what is left
 
@@ -198,35 +199,76 @@ abbrev pub is_missing : Answer → Bool
 is_missing (Err NoFile) = true
 is_missing answer = false
 
--- The count of openings has risen by just as many as the notes of openings are, and by one more where a file is missing of
--- files that tell nothing. What ATTACH and RESTORE open for a unit is tried in more than one mode, or is more than one file.
-abbrev pub OpeningsAre : Bool → Bool → Answer → List FaultNote → FileState → FileState → Type 0
-OpeningsAre true tells answer kept old new = Unit {0}
-OpeningsAre false tells answer kept old new =
-    new.open_faults ≡ raised_by (openings_noted kept + one_if (is_missing answer && not tells)) old.open_faults
+-- what a command opens
+pub data CommandOpens : Type 0 where
+  -- no file
+  OpensNone : CommandOpens
+  -- a file of its own, in one call
+  OpensOwn : CommandOpens
+  -- a file for a unit
+  OpensForUnit : AttachMode → CommandOpens
+  -- a file of its own, and those of a saved session for their units, each in one call
+  OpensSaved : CommandOpens
 
--- whether that attaches a file to a unit: ATTACH or RESTORE
-abbrev pub attaches_file : Request → Bool
-attaches_file (Attach option unit name) = true
-attaches_file (Restore force name) = true
-attaches_file request = false
+abbrev pub opens_of : Request → CommandOpens
+opens_of (Attach option unit name) = OpensForUnit (mode_of option)
+opens_of (Restore force name) = OpensSaved
+opens_of (Do echo strict name arguments) = OpensOwn
+opens_of (Load name) = OpensOwn
+opens_of (Dump from to name) = OpensOwn
+opens_of (Save name) = OpensOwn
+opens_of request = OpensNone
+
+-- whether that attaches a file to a unit
+abbrev pub attaches : CommandOpens → Bool
+attaches OpensNone = false
+attaches OpensOwn = false
+attaches (OpensForUnit mode) = true
+attaches OpensSaved = true
+
+-- how many openings may have failed that neither a note nor the answer names: where a file is made that is not there, it is
+-- looked for first, and that it was not found counts where names are not told
+abbrev pub most_unnoted : CommandOpens → Bool → ℕ
+most_unnoted OpensNone tells = 0
+most_unnoted OpensOwn tells = 0
+most_unnoted (OpensForUnit mode) tells = most_unnamed mode tells
+most_unnoted OpensSaved tells = 0
+
+-- how many ids it gives at most: one for each file that it opens
+abbrev pub most_opened : CommandOpens → ℕ
+most_opened OpensNone = 0
+most_opened OpensOwn = 1
+most_opened (OpensForUnit mode) = 1
+most_opened OpensSaved = 1 + file_units
+
+-- The count of openings has risen by just as many as the notes of openings are, by one more where a file is missing of
+-- files that tell nothing, and by those few that nothing names.
+pub record OpeningsAre (most : ℕ) (tells : Bool) (answer : Answer) (kept : List FaultNote) (old new : FileState) : Type 0 where
+  pub unnoted : ℕ
+  pub few : unnoted ≤ most
+  pub count : new.open_faults ≡ raised_by (unnoted + (openings_noted kept + one_if (is_missing answer && not tells))) old.open_faults
 
 -- The notes that were kept are those of calls that failed just now: they have the command's number and the time at which
 -- the machine stands, there is just one for each such call, but for the one closing of each file that was given back, and
 -- they are why a file was refused.
-pub record KeepsAs (attaches : Bool) (number time : ℕ) (tells : Bool) (answer : Answer) (notes notes' : List FaultNote) (old new : FileState) : Type 0 where
+pub record KeepsAs (opens : CommandOpens) (number time : ℕ) (tells : Bool) (answer : Answer) (notes notes' : List FaultNote) (old new : FileState) : Type 0 where
   pub kept : List FaultNote
   pub added : notes' ≡ notes ++ kept
   pub few : length kept ≤ 16
   pub stamped : AllByRecursion (IsStamped number time) kept
   pub counted : AreCounted kept old new
-  pub exact : AreExact (attaches && gives_back answer) kept old new
-  pub openings : OpeningsAre attaches tells answer kept old new
+  pub exact : AreExact (attaches opens && gives_back answer) kept old new
+  pub openings : OpeningsAre (most_unnoted opens tells) tells answer kept old new
+  pub given : new.given ≤ old.given + most_opened opens
   pub cause : FileCause (record { command = number; time = time }) tells answer kept old new
 
--- those of a command that attaches no file: each note stands for a call that failed, and no such call is without one
+-- those of a command that opens no file: each note stands for a call that failed, and no such call is without one
 abbrev pub Keeps : ℕ → ℕ → Bool → Answer → List FaultNote → List FaultNote → FileState → FileState → Type 0
-Keeps number time tells answer notes notes' old new = KeepsAs false number time tells answer notes notes' old new
+Keeps number time tells answer notes notes' old new = KeepsAs OpensNone number time tells answer notes notes' old new
+
+-- the same of a command that opens a file of its own, and attaches none
+abbrev pub KeepsOwn : ℕ → ℕ → Bool → Answer → List FaultNote → List FaultNote → FileState → FileState → Type 0
+KeepsOwn number time tells answer notes notes' old new = KeepsAs OpensOwn number time tells answer notes notes' old new
 
 -- whether that is RESTORE
 abbrev pub is_restore : Request → Bool
@@ -243,14 +285,15 @@ CauseBy true stamp tells answer kept old new = RestoreFileCause stamp tells answ
 CauseBy false stamp tells answer kept old new = FileCause stamp tells answer kept old new
 
 -- the notes of any command
-pub record KeepsBy (restores attaches : Bool) (number before now : ℕ) (tells : Bool) (answer : Answer) (notes notes' : List FaultNote) (old new : FileState) : Type 0 where
+pub record KeepsBy (restores : Bool) (opens : CommandOpens) (number before now : ℕ) (tells : Bool) (answer : Answer) (notes notes' : List FaultNote) (old new : FileState) : Type 0 where
   pub kept : List FaultNote
   pub added : notes' ≡ notes ++ kept
   pub few : length kept ≤ 16
   pub stamped : AllByRecursion (IsStamped number (note_time restores before now)) kept
   pub counted : AreCounted kept old new
-  pub exact : AreExact (attaches && gives_back answer) kept old new
-  pub openings : OpeningsAre attaches tells answer kept old new
+  pub exact : AreExact (attaches opens && gives_back answer) kept old new
+  pub openings : OpeningsAre (most_unnoted opens tells) tells answer kept old new
+  pub given : new.given ≤ old.given + most_opened opens
   pub cause : CauseBy restores (record { command = number; time = note_time restores before now }) tells answer kept old new
 
 -- The console's count of faults rises by one where the answer is that it refused a byte, and stands still with every

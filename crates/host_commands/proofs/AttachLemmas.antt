@@ -7,7 +7,8 @@ use Rattle.file_traits.specs.Lists.{NamedBytes, bytes_of}
 use Rattle.file_traits.specs.State.{FileState}
 use Rattle.file_traits.specs.declared.files.FileId.{FileId}
 use Rattle.whole_files.specs.Claims.{raised_by}
-use Rattle.unit_files.specs.Causes.{AtMostOnceMore, IsNewId, IsRefusedFile, AttachCause}
+use Rattle.unit_files.specs.Causes.{AtMostOnceMore, IsNewId, IsRefusedFile, AttachCause, CountsAttach, openings_in, openings_named}
+use Rattle.unit_files.proofs.OpeningCounts.{one-opened}
 use Rattle.std.proofs.lemmas.Bool.{eqb-true}
 use Rattle.std.proofs.lemmas.Bool.Decides.{nat_tests}
 use Rattle.host_lines.specs.Traffic.{Answer as LineAnswer}
@@ -32,7 +33,7 @@ use Rattle.file_commands.specs.declared.note.Subject.{Subject}
 use Rattle.file_commands.specs.declared.note.Subject.TheVariants as subject
 use Rattle.file_commands.specs.declared.note.FaultNote.{FaultNote}
 use Rattle.file_commands.specs.Notes.{CommandNote, Note, same_subject, numbered, failure_now, notes_said}
-use Rattle.file_commands.specs.Counts.{is_of, one_if, noted, AreCounted, AreExact}
+use Rattle.file_commands.specs.Counts.{is_of, is_opening, one_if, noted, openings_noted, AreCounted, AreExact}
 use Rattle.file_commands.specs.declared.stamp.Stamp.{Stamp}
 use Rattle.file_commands.specs.Kept.{fault_note, IsAttachFault, MissingCause, fault_of_attach, kept_of, own_of, own_note}
 use Rattle.expect_actions.specs.Watch.{WatchState}
@@ -46,8 +47,9 @@ use Rattle.command_session.specs.Live.{Live, standing}
 use Rattle.command_session.specs.Reply.{Answer, Reply, refused}
 use Rattle.command_session.specs.FaultText.{attach_fault}
 use Rattle.command_session.specs.FileEffects.{has_files, lacks_unit, mode_of, attach_answer, attach_used, first_place, positioned, attached_machine, attach_with, attach_reply}
-use Rattle.command_session.specs.Doing.{Does, Did, IsLastCall, ComeBehind, IsSaid, IsStamped, FileCause, gives_back, KeepsAs}
+use Rattle.command_session.specs.Doing.{Does, Did, IsLastCall, ComeBehind, IsSaid, IsStamped, FileCause, gives_back, is_missing, OpensForUnit, KeepsAs}
 use Rattle.command_session.proofs.CloseLemmas.{refused-first}
+use Rattle.command_session.proofs.KeptLemmas.{keeps-none}
 use Rattle.command_session.proofs.SeenLemmas.{attached-erased, erased-with, same-with}
 use Rattle.command_session.proofs.DidLemmas.{refused-did}
 use Rattle.command_session.proofs.BehindLemmas.{kept-said}
@@ -382,11 +384,51 @@ attach-once stamp tells unit (Err (attach.Failed f)) old new cause file = by f.c
     by SetLength is = of-file (λ opening. absurd (let both : SetLength ≡ Opening = sym is ∙ opening in cc))
 attach-once stamp tells unit (Err attach.OutOfMemory) old new cause file = inl (ap (λ (f : ℕ → ℕ). f file) cause)
 
-pub attach-keeps : (number time : ℕ) (stamp : Stamp) (tells : Bool) (unit : UnitName) (r : Result ℕ AttachFault) (answer : Answer) (notes notes' : List FaultNote) (old new : FileState)
+-- the notes and the answer name just those openings that failed which the attaching names
+attach-noted : (stamp : Stamp) (tells : Bool) (unit : UnitName) (r : Result ℕ AttachFault) (old new : FileState) → AttachCause tells r unit old new
+    → openings_noted (kept_of stamp (fault_of_attach r)) + one_if (is_missing (attach_result r) && not tells) ≡ openings_named tells r
+attach-noted stamp tells unit (Ok count) old new cause = refl
+attach-noted stamp tells unit (Err attach.AlreadyAttached) old new cause = refl
+attach-noted stamp tells unit (Err attach.ReadOnly) old new cause = refl
+attach-noted stamp true unit (Err attach.NoFile) old new cause = refl
+attach-noted stamp false unit (Err attach.NoFile) old new cause = refl
+attach-noted stamp tells unit (Err attach.TooLong) old new cause = refl
+attach-noted stamp tells unit (Err (attach.Failed f)) old new cause = by f.call refl
+  where
+    of-file : (f.call ≡ Opening → ⊥) → (one_if (is_opening f.file) + 0) + 0 ≡ 0
+    of-file other = ap (λ (x : Option FileId). (one_if (is_opening x) + 0) + 0) (cause.other other).1
+
+    by : (c : FileCall) → f.call ≡ c → (one_if (is_opening f.file) + 0) + 0 ≡ openings_in f.call
+    by Opening is = ap (λ (x : Option FileId). (one_if (is_opening x) + 0) + 0) (cause.opening is).0 ∙ ap openings_in (sym is)
+    by Closing is = of-file (λ opening. absurd (let both : Closing ≡ Opening = sym is ∙ opening in cc)) ∙ ap openings_in (sym is)
+    by Length is = of-file (λ opening. absurd (let both : Length ≡ Opening = sym is ∙ opening in cc)) ∙ ap openings_in (sym is)
+    by Read is = of-file (λ opening. absurd (let both : Read ≡ Opening = sym is ∙ opening in cc)) ∙ ap openings_in (sym is)
+    by Write is = of-file (λ opening. absurd (let both : Write ≡ Opening = sym is ∙ opening in cc)) ∙ ap openings_in (sym is)
+    by SetLength is = of-file (λ opening. absurd (let both : SetLength ≡ Opening = sym is ∙ opening in cc)) ∙ ap openings_in (sym is)
+attach-noted stamp tells unit (Err attach.OutOfMemory) old new cause = refl
+
+-- a command that was refused before it has opened a file has opened none
+pub attach-untried : (mode : AttachMode) (number time : ℕ) (tells : Bool) (notes notes' : List FaultNote) (state : FileState) → notes' ≡ notes
+    → KeepsAs (OpensForUnit mode) number time tells (Err NoSuchName) notes notes' state state
+attach-untried mode number time tells notes notes' state none =
+    let k = keeps-none number time tells (Err NoSuchName) notes notes' state none tt in
+    record {
+      kept = k.kept;
+      added = k.added;
+      few = k.few;
+      stamped = k.stamped;
+      counted = k.counted;
+      exact = k.exact;
+      openings = record { unnoted = k.openings.unnoted; few = let none = k.openings.few in omega (arith, none); count = k.openings.count };
+      given = omega arith;
+      cause = k.cause;
+    }
+
+pub attach-keeps : (mode : AttachMode) (number time : ℕ) (stamp : Stamp) (tells : Bool) (unit : UnitName) (r : Result ℕ AttachFault) (answer : Answer) (notes notes' : List FaultNote) (old new : FileState)
     → stamp ≡ record { command = number; time = time } → answer ≡ attach_result r → notes' ≡ notes ++ kept_of stamp (fault_of_attach r) → AreCounted (kept_of stamp (fault_of_attach r)) old new
-    → IfSome (fault_of_attach r) (IsAttachFault unit) → MissingCause tells r old new → AttachCause tells r unit old new → old.given ≤ new.given
-    → KeepsAs true number time tells answer notes notes' old new
-attach-keeps number time stamp tells unit r answer notes notes' old new stamped answered added counted of_unit missing counts ids =
+    → IfSome (fault_of_attach r) (IsAttachFault unit) → MissingCause tells r old new → AttachCause tells r unit old new → CountsAttach mode tells r old new → old.given ≤ new.given
+    → KeepsAs (OpensForUnit mode) number time tells answer notes notes' old new
+attach-keeps mode number time stamp tells unit r answer notes notes' old new stamped answered added counted of_unit missing counts opens ids =
     let own : Stamp = record { command = number; time = time } in
     record {
       kept = kept_of own (fault_of_attach r);
@@ -397,6 +439,12 @@ attach-keeps number time stamp tells unit r answer notes notes' old new stamped 
       exact =
           subst (λ (a : Answer). AreExact (gives_back a) (kept_of own (fault_of_attach r)) old new) (sym answered)
           (record { files = attach-exact own tells unit r old new counts; most = attach-once own tells unit r old new counts; ids = ids });
-      openings = tt;
+      openings = record {
+        unnoted = opens.unnamed;
+        few = opens.few;
+        count = opens.openings ∙ ap (λ (n : ℕ). raised_by (opens.unnamed + n) old.open_faults) (sym (attach-noted own tells unit r old new counts))
+            ∙ ap (λ (a : Answer). raised_by (opens.unnamed + (openings_noted (kept_of own (fault_of_attach r)) + one_if (is_missing a && not tells))) old.open_faults) (sym answered);
+      };
+      given = let given = opens.ids in let one = one-opened r in omega (arith, given, one);
       cause = subst (λ (a : Answer). FileCause own tells a (kept_of own (fault_of_attach r)) old new) (sym answered) (attach-cause own tells unit r old new of_unit missing);
     }

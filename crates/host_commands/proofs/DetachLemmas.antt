@@ -258,6 +258,7 @@ detach-keeps number time stamp tells unit attached disk r answer notes notes' ol
       openings =
           openings-none tells answer (kept_of own (fault_of_detach r)) old new (ap is_missing answered ∙ detached-there r) all.openings
           (subst (λ (s : Stamp). AreCounted (kept_of s (fault_of_detach r)) old new) stamped counted);
+      given = let same = all.ids in omega (arith, same);
       cause =
           subst (λ (a : Answer). FileCause own tells a (kept_of own (fault_of_detach r)) old new) (sym answered)
           (subst (λ (s : Stamp). FileCause s tells (detach_result r) (kept_of s (fault_of_detach r)) old new) stamped cause);

@@ -7,7 +7,7 @@ use Rattle.scp_parser.specs.Command.{Request}
 use Rattle.nova_machine.specs.Comes.{Output}
 use Rattle.command_session.specs.Live.{Live, standing}
 use Rattle.command_session.specs.Reply.{Answer, Reply}
-use Rattle.command_session.specs.Doing.{Does, Did, attaches_file, KeepsAs}
+use Rattle.command_session.specs.Doing.{Does, Did, CommandOpens, opens_of, KeepsAs}
 use Rattle.command_session.proofs.DidLemmas.{did-of}
 use Rattle.host_commands.specs.HostEffect.{host_effect}
 
@@ -27,8 +27,8 @@ noted-did number live new request other reply answer tells before after notes no
     subst (λ (r : List CommandNote → Reply). Did r number answer new tells before after notes notes')
     (λ i own. sym (ap (λ (x : Request). host_effect own live x) is ∙ comes own) i) did
 
--- the notes of a command, by whether it attaches a file
-pub kept-as : (b : Bool) (r : Request) (number time : ℕ) (tells : Bool) (answer : Answer) (notes notes' : List FaultNote) (old new : FileState) → attaches_file r ≡ b
-    → KeepsAs b number time tells answer notes notes' old new → KeepsAs (attaches_file r) number time tells answer notes notes' old new
-kept-as b r number time tells answer notes notes' old new is keeps =
-    subst (λ (x : Bool). KeepsAs x number time tells answer notes notes' old new) (sym is) keeps
+-- the notes of a command, by what it opens
+pub kept-as : (opens : CommandOpens) (r : Request) (number time : ℕ) (tells : Bool) (answer : Answer) (notes notes' : List FaultNote) (old new : FileState) → opens_of r ≡ opens
+    → KeepsAs opens number time tells answer notes notes' old new → KeepsAs (opens_of r) number time tells answer notes notes' old new
+kept-as opens r number time tells answer notes notes' old new is keeps =
+    subst (λ (x : CommandOpens). KeepsAs x number time tells answer notes notes' old new) (sym is) keeps

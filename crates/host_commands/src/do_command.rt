@@ -16,7 +16,7 @@ ghost use Rattle.command_session.specs.WholeCalls.{whole_answer};
 ghost use Rattle.command_session.specs.Refusals.{UnreadCause};
 ghost use Rattle.command_session.specs.Answers.{OfDo};
 ghost use Rattle.command_session.specs.FileWorks.{DoWorks};
-ghost use Rattle.command_session.specs.Doing.{Did, Keeps, IsUndone, IsOwn, IsExitAnswer, IsRefused};
+ghost use Rattle.command_session.specs.Doing.{Did, KeepsOwn, IsUndone, IsOwn, IsExitAnswer, IsRefused};
 
 use command_session::{CommandFault, DoFile, Next, ScriptText, Session, note_reading, stamp_of};
 use file_commands::Subject;
@@ -51,7 +51,7 @@ pub fn do_script<U: Unit, F: Files>(
     ensures undone { (text : List ℕ) → result ≡ Err OutOfMemory
         → IsUndone false (Some Script) F.tells session.old session.new text text (F.state files.old)
         (F.state files.new) }
-    ensures keeps { Keeps session.old.command session.new.machine.time F.tells result session.old.notes
+    ensures keeps { KeepsOwn session.old.command session.new.machine.time F.tells result session.old.notes
         session.new.notes (F.state files.old) (F.state files.new) }
     ensures whose { AreOwn session.old.machine.slots session.new.machine.slots session.old.notes session.new.notes
         (F.state files.old) (F.state files.new) }

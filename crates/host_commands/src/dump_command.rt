@@ -17,7 +17,7 @@ ghost use Rattle.command_session.specs.TapeEffects.{can_dump, dump_after, dump_r
 ghost use Rattle.scp_parser.specs.Command.{Dump};
 ghost use Rattle.command_session.specs.Refusals.{IsUnrefused};
 ghost use Rattle.command_session.specs.Answers.{IsByTables, OfDump, out_of_range};
-ghost use Rattle.command_session.specs.Doing.{Did, Keeps, IsUndone, IsOwn, IsExitAnswer, IsRefused};
+ghost use Rattle.command_session.specs.Doing.{Did, KeepsOwn, IsUndone, IsOwn, IsExitAnswer, IsRefused};
 
 use binary_load::dump;
 use command_session::{CommandFault, Next, Session, note_writing, stamp_of, written_answer};
@@ -58,7 +58,7 @@ pub fn dump_file<U: Unit, F: Files>(
         → IsUndone false None true session.old session.new text text (F.state files.old) (F.state files.new) }
     ensures unrefused { result ≡ Err OutOfMemory
         → IsUnrefused (Dump from to name.now) session.old.machine session.old.watch }
-    ensures keeps { Keeps session.old.command session.new.machine.time F.tells result session.old.notes
+    ensures keeps { KeepsOwn session.old.command session.new.machine.time F.tells result session.old.notes
         session.new.notes (F.state files.old) (F.state files.new) }
     ensures whose { AreOwn session.old.machine.slots session.new.machine.slots session.old.notes session.new.notes
         (F.state files.old) (F.state files.new) }
@@ -127,7 +127,7 @@ fn write_tape<U: Unit, F: Files>(
         (notes_said session.old.notes) (notes_said session.new.notes) }
     ensures undone { (text : List ℕ) → result ≡ Err OutOfMemory
         → IsUndone false None true session.old session.new text text (F.state files.old) (F.state files.new) }
-    ensures keeps { Keeps session.old.command session.new.machine.time F.tells result session.old.notes
+    ensures keeps { KeepsOwn session.old.command session.new.machine.time F.tells result session.old.notes
         session.new.notes (F.state files.old) (F.state files.new) }
     ensures whose { AreOwn session.old.machine.slots session.new.machine.slots session.old.notes session.new.notes
         (F.state files.old) (F.state files.new) }

@@ -14,7 +14,7 @@ ghost use Rattle.command_session.specs.Nature.{nature};
 ghost use Rattle.command_session.specs.LinesLeft.{LinesLeft, IsUnlistened, ListenCause};
 ghost use Rattle.command_session.specs.Refusals.{IsUnrefused, IsMeasured};
 ghost use Rattle.command_session.specs.Answers.{AnswersByTables, CanAnswer};
-ghost use Rattle.command_session.specs.Doing.{Did, IsTold, IsRefused, KeepsAs, attaches_file, MayWant, IsUndone, says_files, IsExitAnswer, AttachNote};
+ghost use Rattle.command_session.specs.Doing.{Did, IsTold, IsRefused, KeepsAs, opens_of, MayWant, IsUndone, says_files, IsExitAnswer, AttachNote};
 ghost use Rattle.host_commands.specs.HostEffect.{host_effect, IsHosted, IsHostAnswer, HostWorks, HostLines};
 
 use crate::do_command::do_script;
@@ -68,7 +68,7 @@ pub fn obey_host<U: Unit, F: Files, L: Lines>(
     ensures tables { result ≢ Err OutOfMemory → AnswersByTables session.old.machine command.now result }
     ensures answers { CanAnswer command.now result }
     ensures works { HostWorks command.now result session.old session.new (F.state files.old) (F.state files.new) }
-    ensures keeps { KeepsAs (attaches_file command.now) session.old.command session.new.machine.time F.tells result
+    ensures keeps { KeepsAs (opens_of command.now) session.old.command session.new.machine.time F.tells result
         session.old.notes session.new.notes (F.state files.old) (F.state files.new) }
     ensures whose { AreOwn session.old.machine.slots session.new.machine.slots session.old.notes session.new.notes
         (F.state files.old) (F.state files.new) }

@@ -17,7 +17,7 @@ ghost use Rattle.command_session.specs.Refusals.{UnreadCause};
 ghost use Rattle.command_session.specs.TapeEffects.{tape_in, tape_answer, tape_machine, read_machine, load_reply};
 ghost use Rattle.command_session.specs.Answers.{OfLoad};
 ghost use Rattle.command_session.specs.FileWorks.{LoadWorks};
-ghost use Rattle.command_session.specs.Doing.{Did, Keeps, IsUndone, IsOwn, IsExitAnswer, IsRefused};
+ghost use Rattle.command_session.specs.Doing.{Did, KeepsOwn, IsUndone, IsOwn, IsExitAnswer, IsRefused};
 
 use binary_load::load;
 use command_session::{CommandFault, Next, Session, note_reading, stamp_of};
@@ -53,7 +53,7 @@ pub fn load_file<U: Unit, F: Files>(
     ensures undone { (text : List ℕ) → result ≡ Err OutOfMemory
         → IsUndone false (Some of_load) F.tells session.old session.new text text (F.state files.old)
         (F.state files.new) }
-    ensures keeps { Keeps session.old.command session.new.machine.time F.tells result session.old.notes
+    ensures keeps { KeepsOwn session.old.command session.new.machine.time F.tells result session.old.notes
         session.new.notes (F.state files.old) (F.state files.new) }
     ensures whose { AreOwn session.old.machine.slots session.new.machine.slots session.old.notes session.new.notes
         (F.state files.old) (F.state files.new) }

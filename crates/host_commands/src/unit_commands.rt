@@ -22,7 +22,7 @@ ghost use Rattle.command_session.specs.Answers.{IsByTables, AnswersByTables, OfA
 ghost use Rattle.command_session.specs.FileWorks.{AttachWorks};
 ghost use Rattle.command_session.specs.LinesLeft.{LinesLeft};
 ghost use Rattle.command_session.specs.PortAnswers.{DetachesUnit, ClosesAll};
-ghost use Rattle.command_session.specs.Doing.{Did, IsTold, Keeps, KeepsAs, IsUndone, IsOwn, IsPlain, IsExitAnswer, IsRefused, AttachNote};
+ghost use Rattle.command_session.specs.Doing.{Did, IsTold, OpensForUnit, Keeps, KeepsAs, IsUndone, IsOwn, IsPlain, IsExitAnswer, IsRefused, AttachNote};
 
 use crate::line_commands::detach_port;
 use command_session::{CommandFault, Next, Session, is_terminal, lacks_unit, stamp_of};
@@ -59,8 +59,8 @@ pub fn attach<U: Unit, F: Files>(
         → IsUndone false None true session.old session.new text text (F.state files.old) (F.state files.new) }
     ensures unrefused { result ≡ Err OutOfMemory
         → IsUnrefused (Attach option unit name.now) session.old.machine session.old.watch }
-    ensures keeps { KeepsAs true session.old.command session.new.machine.time F.tells result session.old.notes
-        session.new.notes (F.state files.old) (F.state files.new) }
+    ensures keeps { KeepsAs (OpensForUnit (mode_of option)) session.old.command session.new.machine.time F.tells result
+        session.old.notes session.new.notes (F.state files.old) (F.state files.new) }
     ensures whose { AreOwn session.old.machine.slots session.new.machine.slots session.old.notes session.new.notes
         (F.state files.old) (F.state files.new) }
     ensures note { AttachNote (Attach option unit name.now) result

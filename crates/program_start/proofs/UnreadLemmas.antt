@@ -13,7 +13,7 @@ use Rattle.whole_files.specs.declared.whole.WholeFault.{WholeFault}
 use Rattle.whole_files.specs.declared.whole.WholeFault.TheVariants as whole
 use Rattle.whole_files.specs.Whole.{longest_file}
 use Rattle.whole_files.specs.Claims.{HasShape, raised_by, claims_on, opening_counted, Fits, WholeCause}
-use Rattle.command_session.specs.Doing.{AllClosings, FileCause, Keeps}
+use Rattle.command_session.specs.Doing.{AllClosings, FileCause, KeepsOwn}
 use Rattle.command_session.specs.declared.next.Next.TheVariants.{Go}
 use Rattle.command_session.specs.Reply.{Answer}
 use Rattle.command_session.specs.WholeCalls.{whole_answer}
@@ -45,11 +45,11 @@ pub word-cause : (tells : Bool) (whose : Subject) (name name' : List ℕ) (kept 
     → one ≡ kept ++ noted_call whose w.failed → two ≡ one ++ noted_call whose w.closing → name' ≡ name → HasShape w
     → ((file : ℕ) → new.faults file ≡ raised_by (claims_on w file) (old.faults file))
     → new.open_faults ≡ (if opening_counted tells w then raised old.open_faults else old.open_faults)
-    → old.given ≤ new.given → WholeCause tells name' w.bytes old new → WordCause tells whose name w.bytes kept two old new
-word-cause tells whose name name' kept one two w old new first second same shape counts openings ids cause =
-    let keeps : Keeps 0 0 tells (whole_answer whose goes w.bytes) kept two old new =
+    → old.given ≤ new.given → new.given ≤ old.given + 1 → WholeCause tells name' w.bytes old new → WordCause tells whose name w.bytes kept two old new
+word-cause tells whose name name' kept one two w old new first second same shape counts openings ids most cause =
+    let keeps : KeepsOwn 0 0 tells (whole_answer whose goes w.bytes) kept two old new =
     read-keeps whose 0 0 tells goes w (whole_answer whose goes w.bytes) kept two old new (λ bytes notes shut. shut) refl shape
-    (record { counts = counts; openings = openings; ids = ids })
+    (record { counts = counts; openings = openings; ids = ids; one = most })
     (two-kept whose kept one two w first second ∙ ap (λ (l : List FaultNote). kept ++ l) (noted-as whose w.failed w.closing)) in
     record {
       more = keeps.kept;

@@ -234,6 +234,11 @@ stop-openings : (stop : Stop) (slots : List (Option Held)) (old new : FileState)
 stop-openings (FileFault f) slots old new cause = cause.openings
 stop-openings stop slots old new cause = cause.openings
 
+-- a run opens no file
+stop-ids : (stop : Stop) (slots : List (Option Held)) (old new : FileState) → coming.FileCause (Some stop) slots old new → new.given ≡ old.given
+stop-ids (FileFault f) slots old new cause = cause.ids
+stop-ids stop slots old new cause = cause.ids
+
 ran-there : {T E : Type 0} (printed : Result T E) (stop : Stop) (answer : Answer) → answer ≡ told_or_console printed (Ran stop) → is_missing answer ≡ false
 ran-there (Ok x) stop answer is = ap is_missing is
 ran-there (Err e) stop answer is = ap is_missing is
@@ -266,6 +271,7 @@ run-keeps number time tells stop printed answer slots notes notes' old new is ad
       openings =
           openings-none tells answer (stop_notes stamp stop) old new (ran-there printed stop answer is) (stop-openings stop slots old new cause)
           (counted-stop stamp stop slots old new unit cause);
+      given = let same = stop-ids stop slots old new cause in omega (arith, same);
       cause = subst (λ (a : Answer). FileCause stamp tells a (stop_notes stamp stop) old new) (sym is) (told-cause stamp tells printed stop old new);
     }
 
@@ -282,5 +288,6 @@ cut-keeps number time tells stop slots notes old new is cause = record {
   openings =
       openings-none tells (Err Console) [] old new refl (stop-openings stop slots old new cause)
       (counted-quiet old new (subst (λ (x : Stop). coming.FileCause (Some x) slots old new) is cause));
+  given = let same = stop-ids stop slots old new cause in omega (arith, same);
   cause = (ConsoleFault, refl);
 }

@@ -30,7 +30,7 @@ use Rattle.scp_commands.specs.LineAnswers.{RunLines, LinesAnswer}
 use Rattle.scp_commands.specs.Effect.{effect, IsStateless}
 use Rattle.command_session.specs.Nature.{IsUntold}
 use Rattle.command_session.specs.Refusals.{IsMeasured}
-use Rattle.command_session.specs.Doing.{Does, Did, OpeningsAre, attaches_file, KeepsAs, KeepsBy, CauseBy, note_time, is_restore, MayWant, RunCause, AttachNote, IsTold, ConsoleCounts}
+use Rattle.command_session.specs.Doing.{Does, Did, CommandOpens, OpensNone, opens_of, attaches, KeepsAs, KeepsBy, CauseBy, note_time, is_restore, MayWant, RunCause, AttachNote, IsTold, ConsoleCounts}
 use Rattle.nova_machine.specs.declared.machine.Stop.TheVariants.{ConsoleFault}
 use Rattle.unit_files.specs.Attachments.{Held}
 use Rattle.file_commands.specs.declared.stamp.Stamp.{Stamp}
@@ -70,9 +70,9 @@ restore-named line v force file r name read is named =
 -- ---- the notes of a command that is no RESTORE, and of one that kept none
 
 pub as-kept : (r : Request) (number before now : ℕ) (tells : Bool) (answer : Answer) (notes notes' : List FaultNote) (old new : FileState) → is_restore r ≡ false
-    → KeepsAs (attaches_file r) number now tells answer notes notes' old new → KeepsBy (is_restore r) (attaches_file r) number before now tells answer notes notes' old new
+    → KeepsAs (opens_of r) number now tells answer notes notes' old new → KeepsBy (is_restore r) (opens_of r) number before now tells answer notes notes' old new
 as-kept r number before now tells answer notes notes' old new other keeps =
-    subst (λ (b : Bool). KeepsBy b (attaches_file r) number before now tells answer notes notes' old new) (sym other)
+    subst (λ (b : Bool). KeepsBy b (opens_of r) number before now tells answer notes notes' old new) (sym other)
     (record {
       kept = keeps.kept;
       added = keeps.added;
@@ -81,43 +81,45 @@ as-kept r number before now tells answer notes notes' old new other keeps =
       counted = keeps.counted;
       exact = keeps.exact;
       openings = keeps.openings;
+      given = keeps.given;
       cause = keeps.cause;
     })
 
--- which command attaches a file
-pub run-attaches : (r : Request) → IsRun r → attaches_file r ≡ false
-run-attaches (Run address) runs = refl
-run-attaches (GoRequest address) runs = refl
-run-attaches Cont runs = refl
-run-attaches (Step count) runs = refl
-run-attaches r runs = absurd runs
+-- which command opens no file
+pub run-opens : (r : Request) → IsRun r → opens_of r ≡ OpensNone
+run-opens (Run address) runs = refl
+run-opens (GoRequest address) runs = refl
+run-opens Cont runs = refl
+run-opens (Step count) runs = refl
+run-opens r runs = absurd runs
 
-pub untold-attaches : (r : Request) → IsUntold r → attaches_file r ≡ false
-untold-attaches (Attach option unit name) untold = absurd (cc untold.0)
-untold-attaches (Restore force name) untold = absurd (cc untold.0)
-untold-attaches r untold = refl
+pub untold-opens : (r : Request) → IsUntold r → opens_of r ≡ OpensNone
+untold-opens (Attach option unit name) untold = absurd (cc untold.0)
+untold-opens (Restore force name) untold = absurd (cc untold.0)
+untold-opens (Do echo strict name arguments) untold = absurd (cc untold.0)
+untold-opens (Load name) untold = absurd (cc untold.0)
+untold-opens (Dump from to name) untold = absurd (cc untold.0)
+untold-opens (Save name) untold = absurd (cc untold.0)
+untold-opens r untold = refl
 
 pub untold-restore : (r : Request) → IsUntold r → is_restore r ≡ false
 untold-restore (Restore force name) untold = absurd (cc untold.0)
 untold-restore r untold = refl
 
-pub want-kept : (b attaches : Bool) (number before now : ℕ) (tells : Bool) (notes notes' : List FaultNote) (state : FileState) → notes' ≡ notes
-    → KeepsBy b attaches number before now tells (Err OutOfMemory) notes notes' state state
-want-kept b attaches number before now tells notes notes' state none = record {
+pub want-kept : (b : Bool) (opens : CommandOpens) (number before now : ℕ) (tells : Bool) (notes notes' : List FaultNote) (state : FileState) → notes' ≡ notes
+    → KeepsBy b opens number before now tells (Err OutOfMemory) notes notes' state state
+want-kept b opens number before now tells notes notes' state none = record {
   kept = [];
   added = none ∙ sym (append-nil notes);
   few = omega arith;
   stamped = tt;
   counted = counted-none state;
-  exact = exact-none (attaches && true) state;
-  openings = no-opening attaches;
+  exact = exact-none (attaches opens && true) state;
+  openings = record { unnoted = 0; few = omega arith; count = refl };
+  given = omega arith;
   cause = by b;
 }
   where
-    no-opening : (attaches : Bool) → OpeningsAre attaches tells (Err OutOfMemory) [] state state
-    no-opening true = tt
-    no-opening false = refl
-
     by : (b : Bool) → CauseBy b (record { command = number; time = note_time b before now }) tells (Err OutOfMemory) [] state state
     by true = tt
     by false = tt

@@ -22,7 +22,7 @@ ghost use Rattle.command_session.specs.Refusals.{IsUnrefused, IsMeasured};
 ghost use Rattle.command_session.specs.Answers.{AnswersByTables, CanAnswer};
 ghost use Rattle.scp_commands.specs.Works.{Works};
 ghost use Rattle.command_session.specs.RunStops.{RunStops, run_count, is_step};
-ghost use Rattle.command_session.specs.Doing.{Did, IsTold, IsRefused, ConsoleCounts, MayWant, IsUndone, says_files, IsExitAnswer, RunCause, AttachNote, KeepsAs, KeepsBy, is_restore, attaches_file};
+ghost use Rattle.command_session.specs.Doing.{Did, IsTold, IsRefused, ConsoleCounts, MayWant, IsUndone, says_files, IsExitAnswer, RunCause, AttachNote, KeepsAs, KeepsBy, is_restore, opens_of};
 
 use crate::family::{Family, family_of};
 use command_session::{CommandFault, Next, Session};
@@ -86,7 +86,7 @@ pub fn execute<U: Unit, F: Files, L: Lines, S: Sink>(
     ensures answers { result ≢ Err OutOfMemory
         → AnswersByTables session.old.machine command.now result × CanAnswer command.now result }
     ensures works { Works command.now result session.old session.new (F.state files.old) (F.state files.new) }
-    ensures keeps { KeepsBy (is_restore command.now) (attaches_file command.now) session.old.command
+    ensures keeps { KeepsBy (is_restore command.now) (opens_of command.now) session.old.command
         session.old.machine.time session.new.machine.time F.tells result session.old.notes session.new.notes
         (F.state files.old) (F.state files.new) }
     ensures whose { AreOwn session.old.machine.slots session.new.machine.slots session.old.notes session.new.notes
@@ -153,7 +153,7 @@ fn obey<U: Unit, F: Files, L: Lines, S: Sink>(
     ensures tables { result ≢ Err OutOfMemory → AnswersByTables session.old.machine command.now result }
     ensures answers { CanAnswer command.now result }
     ensures works { Works command.now result session.old session.new (F.state files.old) (F.state files.new) }
-    ensures keeps { KeepsBy (is_restore command.now) (attaches_file command.now) session.old.command
+    ensures keeps { KeepsBy (is_restore command.now) (opens_of command.now) session.old.command
         session.old.machine.time session.new.machine.time F.tells result session.old.notes session.new.notes
         (F.state files.old) (F.state files.new) }
     ensures whose { AreOwn session.old.machine.slots session.new.machine.slots session.old.notes session.new.notes
@@ -222,7 +222,7 @@ fn obey_stateless<U: Unit, F: Files, L: Lines, S: Sink>(
     ensures tables { result ≢ Err OutOfMemory → AnswersByTables session.old.machine command.now result }
     ensures answers { CanAnswer command.now result }
     ensures works { Works command.now result session.old session.new (F.state files.old) (F.state files.new) }
-    ensures keeps { KeepsAs (attaches_file command.now) session.old.command session.new.machine.time F.tells result
+    ensures keeps { KeepsAs (opens_of command.now) session.old.command session.new.machine.time F.tells result
         session.old.notes session.new.notes (F.state files.old) (F.state files.new) }
     ensures whose { AreOwn session.old.machine.slots session.new.machine.slots session.old.notes session.new.notes
         (F.state files.old) (F.state files.new) }

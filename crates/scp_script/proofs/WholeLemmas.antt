@@ -17,7 +17,7 @@ use Rattle.file_commands.specs.Notes.{CommandNote, Note}
 use Rattle.expect_actions.specs.Watch.{WatchState}
 use Rattle.command_session.specs.Live.{Live}
 use Rattle.command_session.specs.Reply.{Answer}
-use Rattle.command_session.specs.Doing.{ComeBehind, gives_back, Keeps, KeepsBy}
+use Rattle.command_session.specs.Doing.{ComeBehind, CommandOpens, attaches, gives_back, Keeps, KeepsBy}
 use Rattle.command_session.proofs.RemainLemmas.{remains}
 use Rattle.file_commands.proofs.Adding.{counted-both, counted-none}
 use Rattle.file_commands.proofs.Exact.{exact-both, exact-every, exact-kept, exact-none}
@@ -250,10 +250,10 @@ pub kept-none : (notes : List FaultNote) (s : FileState) → AreKept notes notes
 kept-none notes s = record { kept = []; added = sym (append-nil notes); counted = counted-none s; exact = exact-none true s }
 
 -- so are those of a command
-pub kept-by : (restores attaches : Bool) (number before now : ℕ) (tells : Bool) (answer : Answer) (notes notes' : List FaultNote) (old new : FileState)
-    → KeepsBy restores attaches number before now tells answer notes notes' old new → AreKept notes notes' old new
-kept-by restores attaches number before now tells answer notes notes' old new k =
-    record { kept = k.kept; added = k.added; counted = k.counted; exact = exact-every (attaches && gives_back answer) k.kept old new k.exact }
+pub kept-by : (restores : Bool) (opens : CommandOpens) (number before now : ℕ) (tells : Bool) (answer : Answer) (notes notes' : List FaultNote) (old new : FileState)
+    → KeepsBy restores opens number before now tells answer notes notes' old new → AreKept notes notes' old new
+kept-by restores opens number before now tells answer notes notes' old new k =
+    record { kept = k.kept; added = k.added; counted = k.counted; exact = exact-every (attaches opens && gives_back answer) k.kept old new k.exact }
 
 -- and of the end
 pub kept-last : (number now : ℕ) (tells : Bool) (answer : Answer) (notes notes' : List FaultNote) (old new : FileState) → Keeps number now tells answer notes notes' old new

@@ -1,5 +1,5 @@
 -- The notes that RESTORE keeps: of the reading of its file, and of a call on a unit's file.
-use Rattle.std.proofs.Common.{◌≡◌, ◌⊎◌, inl, inr, ℕ, ◌+◌, ◌<◌, ◌≤◌, ◌==◌, nat_lt, Bool, true, false, List, [], ◌∷◌, ◌++◌, length, Option, Some, None, is_some, not, ◌&&◌, Result, Ok, Err, refl, ap, sym, ◌∙◌, subst, append-nil, append_assoc, arith}
+use Rattle.std.proofs.Common.{◌≡◌, ◌⊎◌, inl, inr, ℕ, ◌+◌, ◌<◌, ◌≤◌, ◌==◌, nat_lt, Bool, true, false, List, [], ◌∷◌, ◌++◌, length, Option, Some, None, is_some, not, ◌&&◌, ◌||◌, Result, Ok, Err, refl, ap, sym, ◌∙◌, subst, append-nil, append_assoc, arith}
 use Rattle.std.specs.Prelude.{if◌then◌else◌}
 use Rattle.std.specs.List.{AllByRecursion}
 use Rattle.std.specs.Global.{Vec}
@@ -11,16 +11,16 @@ use Rattle.file_traits.specs.declared.files.FileCall.TheVariants as call
 use Rattle.file_traits.specs.declared.files.FileId.{FileId}
 use Rattle.file_traits.specs.State.{FileState}
 use Rattle.unit_files.specs.declared.faults.UnitFault.{UnitFault}
-use Rattle.unit_files.specs.Attachments.{Held}
-use Rattle.unit_files.specs.Causes.{AtMostOnceMore, OnlyNewCounts, AreFrom, IsNewId}
+use Rattle.unit_files.specs.Attachments.{Held, file_units}
+use Rattle.unit_files.specs.Causes.{AtMostOnceMore, OnlyNewCounts, AreFrom, IsNewId, openings_in}
 use Rattle.file_traits.specs.FileCalls.{UnusedIdsAreUncounted}
 use Rattle.file_commands.specs.declared.note.Subject.TheVariants as subject
 use Rattle.file_commands.specs.declared.note.FaultNote.{FaultNote}
 use Rattle.file_commands.specs.declared.stamp.Stamp.{Stamp}
-use Rattle.file_commands.specs.Counts.{is_of, is_opening, one_if, noted, RoseBy, AreCounted, AreExact}
+use Rattle.file_commands.specs.Counts.{is_of, is_opening, one_if, noted, openings_noted, RoseBy, AreCounted, AreExact}
 use Rattle.file_commands.specs.Kept.{fault_note}
 use Rattle.file_commands.specs.OwnFiles.{OwnFile, IsOwnNote, AreOwn}
-use Rattle.file_commands.proofs.Adding.{counted-both}
+use Rattle.file_commands.proofs.Adding.{counted-both, openings-append}
 use Rattle.file_commands.proofs.Exact.{exact-both, exact-kept, exact-when}
 use Rattle.std.proofs.lemmas.Bool.Decides.{nat_tests}
 use Rattle.file_commands.proofs.Causes.{rose-one, counted-only}
@@ -30,18 +30,22 @@ use Rattle.whole_files.specs.declared.whole.Whole.{Whole}
 use Rattle.whole_files.specs.declared.whole.WholeFault.{WholeFault}
 use Rattle.whole_files.specs.declared.whole.WholeFault.TheVariants as fault
 use Rattle.whole_files.specs.Claims.{HasShape, is_failed, is_missing, raised_by}
+use Rattle.whole_files.specs.Claims as claims
 use Rattle.saved_files.specs.declared.file_faults.RestoreFault.{RestoreFault}
 use Rattle.saved_files.specs.declared.file_faults.RestoreFault.TheVariants as restore
-use Rattle.saved_files.specs.RestoreCauses.{is_on, ClosesOnce, IsRestoreFault, SessionCause}
+use Rattle.saved_files.specs.RestoreCauses.{is_on, openings_named, ClosesOnce, OpensEach, IsRestoreFault, SessionCause}
 use Rattle.command_session.specs.declared.next.Next.TheVariants.{Go}
 use Rattle.command_session.specs.declared.fault.CommandFault.TheVariants.{OutOfMemory, NoFile, PortFailed}
 use Rattle.command_session.specs.FaultText.{whole_fault}
+use Rattle.saved_session.specs.Parts.{FilePart}
 use Rattle.state_commands.specs.StateFaults.{restore_fault}
 use Rattle.command_session.specs.Reply.{Answer}
 use Rattle.state_commands.specs.StateEffects.{restore_notes}
 use Rattle.command_session.specs.WholeCalls.{call_notes, both_notes, read_notes, whole_answer}
-use Rattle.command_session.specs.Doing.{AllClosings, IsShutNote, IsStamped, FileCause, RestoreFileCause, gives_back, Keeps, KeepsBy}
-use Rattle.command_session.proofs.WholeLemmas.{IsShut, Rises, read-claims, both-counted, both-exact, possible-read, few-both, stamped-both}
+use Rattle.command_session.specs.Doing.{AllClosings, IsShutNote, IsStamped, FileCause, RestoreFileCause, gives_back, KeepsOwn, OpensSaved, KeepsBy}
+use Rattle.command_session.specs.Doing as doing
+use Rattle.command_session.proofs.CountedLemmas.{all-named}
+use Rattle.command_session.proofs.WholeLemmas.{IsShut, Rises, openings-are, read-claims, both-counted, both-exact, possible-read, few-both, stamped-both}
 
 -- ---- the file was not read, or its bytes are no state
 
@@ -51,8 +55,8 @@ as-restore stamp tells (Err NoFile) kept old new cause = (subst AllClosings (sym
 as-restore stamp tells (Err PortFailed) kept old new cause = subst AllClosings (sym cause) tt
 as-restore stamp tells answer kept old new cause = cause
 
-pub restore-keeps : (number before now : ℕ) (tells : Bool) (answer : Answer) (notes notes' : List FaultNote) (old new : FileState) → Keeps number before tells answer notes notes' old new
-    → KeepsBy true true number before now tells answer notes notes' old new
+pub restore-keeps : (number before now : ℕ) (tells : Bool) (answer : Answer) (notes notes' : List FaultNote) (old new : FileState) → KeepsOwn number before tells answer notes notes' old new
+    → KeepsBy true OpensSaved number before now tells answer notes notes' old new
 restore-keeps number before now tells answer notes notes' old new keeps = record {
   kept = keeps.kept;
   added = keeps.added;
@@ -60,7 +64,8 @@ restore-keeps number before now tells answer notes notes' old new keeps = record
   stamped = keeps.stamped;
   counted = keeps.counted;
   exact = exact-kept (gives_back answer) keeps.kept old new keeps.exact;
-  openings = tt;
+  openings = keeps.openings;
+  given = let one = keeps.given in omega (arith, one);
   cause = as-restore (record { command = number; time = before }) tells answer keeps.kept old new keeps.cause;
 }
 
@@ -232,6 +237,35 @@ restore-exact stamp tells fault old new only unused unused' cause once =
     by restore.Port cause file none = unchanged-before file old new only unused unused' none
     by restore.OutOfMemory cause file none = unchanged-before file old new only unused unused' none
 
+-- what was read whole was opened
+opened-whole : (failed : Option FailedCall) (bytes : Result (Vec ℕ) WholeFault) (v : Vec ℕ) (tells : Bool) (before now : ℕ) → failed ≡ None → bytes ≡ Ok v
+    → now ≡ (if claims.is_opening failed || (is_missing bytes && not tells) then raised before else before) → now ≡ before
+opened-whole None (Ok u) v tells before now none read is = is
+opened-whole None (Err e) v tells before now none read is = absurd (cc)
+opened-whole (Some f) bytes v tells before now none read is = absurd (cc)
+
+-- the note and the answer name just those openings that failed which the attaching of the files names
+restore-named : (stamp : Stamp) (tells : Bool) (fault : RestoreFault) (old new : FileState) → SessionCause tells (Err fault) old new
+    → openings_noted (restore_notes stamp fault) + one_if (doing.is_missing (Err (restore_fault fault)) && not tells) ≡ openings_named tells (Err fault)
+restore-named stamp tells (restore.Failed f) old new is = by f.call refl
+  where
+    of-file : (f.call ≡ call.Opening → ⊥) → (one_if (is_opening f.file) + 0) + 0 ≡ 0
+    of-file other = ap (λ (x : Option FileId). (one_if (is_opening x) + 0) + 0) (is.other other).file_is
+
+    by : (c : FileCall) → f.call ≡ c → (one_if (is_opening f.file) + 0) + 0 ≡ openings_in f.call
+    by call.Opening same = ap (λ (x : Option FileId). (one_if (is_opening x) + 0) + 0) (is.opening same).0 ∙ ap openings_in (sym same)
+    by call.Length same = of-file (λ opening. absurd (let both : call.Length ≡ call.Opening = sym same ∙ opening in cc)) ∙ ap openings_in (sym same)
+    by call.Read same = of-file (λ opening. absurd (let both : call.Read ≡ call.Opening = sym same ∙ opening in cc)) ∙ ap openings_in (sym same)
+    by call.Write same = of-file (λ opening. absurd (let both : call.Write ≡ call.Opening = sym same ∙ opening in cc)) ∙ ap openings_in (sym same)
+    by call.SetLength same = of-file (λ opening. absurd (let both : call.SetLength ≡ call.Opening = sym same ∙ opening in cc)) ∙ ap openings_in (sym same)
+    by call.Closing same = of-file (λ opening. absurd (let both : call.Closing ≡ call.Opening = sym same ∙ opening in cc)) ∙ ap openings_in (sym same)
+restore-named stamp true (restore.NoFile unit) old new is = refl
+restore-named stamp false (restore.NoFile unit) old new is = refl
+restore-named stamp tells (restore.TooLong unit) old new is = refl
+restore-named stamp tells (restore.Changed unit) old new is = refl
+restore-named stamp tells restore.Port old new is = refl
+restore-named stamp tells restore.OutOfMemory old new is = refl
+
 -- each such refusal may have given files back
 restore-gives : (P : Bool → Type 0) (fault : RestoreFault) → P true → P (gives_back (Err (restore_fault fault)))
 restore-gives P (restore.Failed f) all = all
@@ -276,7 +310,7 @@ more-cause stamp tells restore.Port shut old mid new closings later cause = subs
 more-cause stamp tells restore.OutOfMemory shut old mid new closings later cause = subst AllClosings (sym (append-nil shut)) closings
 
 module _ (number time now : ℕ) (tells : Bool) (w : Whole) (v : Vec ℕ) (is : w.bytes ≡ Ok v) (shape : HasShape w) (old mid new : FileState)
-    (rises : Rises (is_missing w.bytes && not tells) w.failed w.closing old mid) (only : OnlyNewCounts mid new) (unused : UnusedIdsAreUncounted mid) (unused' : UnusedIdsAreUncounted new) where
+    (rises : Rises (is_missing w.bytes && not tells) w.failed w.closing old mid) (files : List FilePart) (few_files : length files ≤ file_units) (only : OnlyNewCounts mid new) (unused : UnusedIdsAreUncounted mid) (unused' : UnusedIdsAreUncounted new) where
   abbrev pub stamp_here : Stamp
   stamp_here = record { command = number; time = time }
 
@@ -286,10 +320,20 @@ module _ (number time now : ℕ) (tells : Bool) (w : Whole) (v : Vec ℕ) (is : 
   first-exact : AreExact false (read_notes subject.State stamp_here w) old mid
   first-exact = both-exact subject.State stamp_here 0 _ w.failed w.closing old mid rises
 
+  -- no opening of the file failed, which was read
+  first-openings : mid.open_faults ≡ old.open_faults
+  first-openings = opened-whole w.failed w.bytes v tells old.open_faults mid.open_faults (read-shut w v is shape) is rises.openings
+
+  first-noted : openings_noted (read_notes subject.State stamp_here w) ≡ 0
+  first-noted = openings-are subject.State stamp_here 0 w.failed w.closing (read-claims w shape) ∙ ap (λ (f : Option FailedCall). one_if (claims.is_opening f)) (read-shut w v is shape)
+
+  most-given : new.given ≤ mid.given + length files → new.given ≤ old.given + (1 + file_units)
+  most-given most = let one = rises.one in omega (arith, most, one, few_files)
+
   -- the session was not put back
   pub refused-restore-keeps : (fault : RestoreFault) (answer : Answer) (notes notes' : List FaultNote) → SessionCause tells (Err fault) mid new → ClosesOnce (Err fault) mid new
-      → answer ≡ Err (restore_fault fault) → notes' ≡ (notes ++ read_notes subject.State stamp_here w) ++ restore_notes stamp_here fault → KeepsBy true true number time now tells answer notes notes' old new
-  refused-restore-keeps fault answer notes notes' cause once answered noted = record {
+      → OpensEach tells (length files) (Err fault) mid new → answer ≡ Err (restore_fault fault) → notes' ≡ (notes ++ read_notes subject.State stamp_here w) ++ restore_notes stamp_here fault → KeepsBy true OpensSaved number time now tells answer notes notes' old new
+  refused-restore-keeps fault answer notes notes' cause once opens answered noted = record {
     kept = read_notes subject.State stamp_here w ++ restore_notes stamp_here fault;
     added = noted ∙ append_assoc notes (read_notes subject.State stamp_here w) (restore_notes stamp_here fault);
     few = let few = few-two in few;
@@ -300,7 +344,16 @@ module _ (number time now : ℕ) (tells : Bool) (w : Whole) (v : Vec ℕ) (is : 
         (restore-gives (λ (b : Bool). AreExact b (read_notes subject.State stamp_here w ++ restore_notes stamp_here fault) old new) fault
         (exact-both true (read_notes subject.State stamp_here w) (restore_notes stamp_here fault) old mid new (exact-kept true (read_notes subject.State stamp_here w) old mid first-exact)
         (restore-exact stamp_here tells fault mid new only unused unused' cause once)));
-    openings = tt;
+    openings =
+        all-named 0 tells answer (read_notes subject.State stamp_here w ++ restore_notes stamp_here fault) old new
+        (let both = openings-append (read_notes subject.State stamp_here w) (restore_notes stamp_here fault) in
+        let named = restore-named stamp_here tells fault mid new cause in
+        let all : openings_noted (read_notes subject.State stamp_here w ++ restore_notes stamp_here fault) + one_if (doing.is_missing (Err (restore_fault fault)) && not tells)
+        ≡ openings_named tells (Err fault) = omega (arith, both, first-noted, named) in
+        opens.openings ∙ ap (raised_by (openings_named tells (Err fault))) first-openings ∙ ap (λ (n : ℕ). raised_by n old.open_faults) (sym all)
+        ∙ ap (λ (a : Answer). raised_by (openings_noted (read_notes subject.State stamp_here w ++ restore_notes stamp_here fault) + one_if (doing.is_missing a && not tells)) old.open_faults)
+        (sym answered));
+    given = most-given opens.most;
     cause =
         subst (λ (a : Answer). RestoreFileCause stamp_here tells a (read_notes subject.State stamp_here w ++ restore_notes stamp_here fault) old new) (sym answered)
         (more-cause stamp_here tells fault (read_notes subject.State stamp_here w) old mid new (read-closings stamp_here w v is shape) first-counted.openings.0 cause);
@@ -320,8 +373,9 @@ module _ (number time now : ℕ) (tells : Bool) (w : Whole) (v : Vec ℕ) (is : 
           omega (arith, both, one, two)
 
   -- it was
-  pub done-restore-keeps : (notes notes' : List FaultNote) → new.faults ≡ mid.faults → notes' ≡ notes ++ read_notes subject.State stamp_here w → KeepsBy true true number time now tells (Ok Go) notes notes' old new
-  done-restore-keeps notes notes' same noted = record {
+  pub done-restore-keeps : (notes notes' : List FaultNote) → new.faults ≡ mid.faults → OpensEach tells (length files) (Ok tt) mid new → notes' ≡ notes ++ read_notes subject.State stamp_here w
+      → KeepsBy true OpensSaved number time now tells (Ok Go) notes notes' old new
+  done-restore-keeps notes notes' same opens noted = record {
     kept = read_notes subject.State stamp_here w;
     added = noted;
     few = few-both subject.State stamp_here 0 w.failed w.closing;
@@ -332,7 +386,11 @@ module _ (number time now : ℕ) (tells : Bool) (w : Whole) (v : Vec ℕ) (is : 
     exact =
         subst (λ (l : List FaultNote). AreExact false l old new) (append-nil (read_notes subject.State stamp_here w))
         (exact-both false (read_notes subject.State stamp_here w) [] old mid new first-exact (exact-when false [] mid new (λ file. ap (λ (f : ℕ → ℕ). f file) same) only.ids));
-    openings = tt;
+    openings =
+        all-named 0 tells (Ok Go) (read_notes subject.State stamp_here w) old new
+        (let none : openings_noted (read_notes subject.State stamp_here w) + 0 ≡ 0 = omega (arith, first-noted) in
+        opens.openings ∙ first-openings ∙ ap (λ (n : ℕ). raised_by n old.open_faults) (sym none));
+    given = most-given opens.most;
     cause = read-closings stamp_here w v is shape;
   }
 

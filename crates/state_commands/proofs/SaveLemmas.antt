@@ -60,7 +60,7 @@ use Rattle.state_commands.specs.StateFaults.{save_fault}
 use Rattle.command_session.specs.FileEffects.{flushed_files}
 use Rattle.command_session.specs.Remains.{Remains}
 use Rattle.state_commands.specs.StateEffects.{save_notes}
-use Rattle.command_session.specs.Doing.{Keeps, FileCause, is_missing}
+use Rattle.command_session.specs.Doing.{KeepsOwn, FileCause, is_missing}
 use Rattle.command_session.proofs.CloseLemmas.{refused-first}
 use Rattle.command_session.proofs.DidLemmas.{did-want}
 use Rattle.command_session.proofs.CountedLemmas.{counted-fault, exact-fault, openings-none}
@@ -188,7 +188,7 @@ refused-did number live new name save.OutOfMemory answer tells out notes notes' 
 
 -- behind calls of which none failed
 pub quiet-keeps : (number time : ℕ) (tells : Bool) (answer : Answer) (notes notes' : List FaultNote) (old mid new : FileState) → IsQuiet old mid
-    → Keeps number time tells answer notes notes' mid new → Keeps number time tells answer notes notes' old new
+    → KeepsOwn number time tells answer notes notes' mid new → KeepsOwn number time tells answer notes notes' old new
 quiet-keeps number time tells answer notes notes' old mid new quiet k = record {
   kept = k.kept;
   added = k.added;
@@ -204,7 +204,12 @@ quiet-keeps number time tells answer notes notes' old mid new quiet k = record {
     most = λ file. subst (λ (f : ℕ → ℕ). AtMostOnceMore (raised_by (noted file k.kept) (f file)) (new.faults file)) quiet.counts (k.exact.most file);
     ids = let same = quiet.ids in let later = k.exact.ids in omega (arith, same, later);
   };
-  openings = subst (λ (n : ℕ). new.open_faults ≡ raised_by (openings_noted k.kept + one_if (is_missing answer && not tells)) n) quiet.openings k.openings;
+  openings = record {
+    unnoted = k.openings.unnoted;
+    few = k.openings.few;
+    count = subst (λ (n : ℕ). new.open_faults ≡ raised_by (k.openings.unnoted + (openings_noted k.kept + one_if (is_missing answer && not tells))) n) quiet.openings k.openings.count;
+  };
+  given = let same = quiet.ids in let most = k.given in omega (arith, same, most);
   cause = by answer k.cause;
 }
   where
@@ -233,9 +238,9 @@ digest-open f (inr (inr call, none)) closing = absurd (let both : Read ≡ Closi
 
 pub refused-keeps : (number time : ℕ) (tells : Bool) (fault : SaveFault) (answer : Answer) (slots : List (Option Held)) (notes notes' : List FaultNote) (old new : FileState)
     → SaveCause {T = Saved} (Err fault) slots old new → notes' ≡ notes ++ save_notes (record { command = number; time = time }) fault → answer ≡ Err (save_fault fault)
-    → Keeps number time tells answer notes notes' old new
+    → KeepsOwn number time tells answer notes notes' old new
 refused-keeps number time tells (save.Failed f) answer slots notes notes' old new cause noted answered =
-    subst (λ (a : Answer). Keeps number time tells a notes notes' old new) (sym answered)
+    subst (λ (a : Answer). KeepsOwn number time tells a notes notes' old new) (sym answered)
     (record {
       kept = fault_note stamp f ∷ [];
       added = noted;
@@ -246,14 +251,15 @@ refused-keeps number time tells (save.Failed f) answer slots notes notes' old ne
       openings =
           openings-none tells (Err (save_fault (save.Failed f))) (fault_note stamp f ∷ []) old new refl cause.fault.openings
           (counted-fault stamp f slots old new (digest-possible f cause.calls) cause.fault);
+      given = let same = cause.fault.ids in omega (arith, same);
       cause = refused-first (subject.Unit f.unit) (fault_note stamp f) [] (refl, digest-open f cause.calls) tt;
     })
   where
     stamp : Stamp
     stamp = record { command = number; time = time }
 refused-keeps number time tells save.OutOfMemory answer slots notes notes' old new cause noted answered =
-    subst (λ (a : Answer). Keeps number time tells a notes notes' old new) (sym answered)
-    (record { kept = []; added = noted; few = omega arith; stamped = tt; counted = counted-quiet old new cause; exact = exact-quiet false old new cause; openings = openings-none tells (Err (save_fault save.OutOfMemory)) [] old new refl cause.openings (counted-quiet old new cause); cause = tt })
+    subst (λ (a : Answer). KeepsOwn number time tells a notes notes' old new) (sym answered)
+    (record { kept = []; added = noted; few = omega arith; stamped = tt; counted = counted-quiet old new cause; exact = exact-quiet false old new cause; openings = openings-none tells (Err (save_fault save.OutOfMemory)) [] old new refl cause.openings (counted-quiet old new cause); given = (let same = cause.ids in omega (arith, same)); cause = tt })
 
 -- ---- what is left of the machine
 

@@ -33,7 +33,7 @@ ghost use Rattle.command_session.specs.Occupied.{has_port, is_occupied};
 ghost use Rattle.state_commands.specs.StateEffects.{restore_notes, restore_reply};
 ghost use Rattle.command_session.specs.Answers.{IsByTables, OfRestore, occupied_fault};
 ghost use Rattle.state_commands.specs.StateWorks.{RestoreWorks};
-ghost use Rattle.command_session.specs.Doing.{Did, KeepsBy, IsUndone, IsRestoreAnswer, IsExitAnswer, IsRefused};
+ghost use Rattle.command_session.specs.Doing.{Did, OpensSaved, KeepsBy, IsUndone, IsRestoreAnswer, IsExitAnswer, IsRefused};
 
 use crate::state_faults::{fault_of_restore, fault_of_state};
 use crate::state_notes::note_state_reading;
@@ -98,7 +98,7 @@ pub fn restore<U: Unit, F: Files, L: Lines>(
         → IsUnrefused (Restore force name.now) session.old.machine session.old.watch }
     ensures measured { result ≡ Err OutOfMemory
         → WholeCause F.tells name.now (Err whole_want) (F.state files.old) (F.state files.new) }
-    ensures keeps { KeepsBy true true session.old.command session.old.machine.time session.new.machine.time F.tells result
+    ensures keeps { KeepsBy true OpensSaved session.old.command session.old.machine.time session.new.machine.time F.tells result
         session.old.notes session.new.notes (F.state files.old) (F.state files.new) }
     ensures whose { AreOwn session.old.machine.slots session.new.machine.slots session.old.notes session.new.notes
         (F.state files.old) (F.state files.new) }

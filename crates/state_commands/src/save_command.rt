@@ -21,7 +21,7 @@ ghost use Rattle.command_session.specs.Live.{live_in, beyond};
 ghost use Rattle.command_session.specs.Remains.{AreLeft, MachineRemains};
 ghost use Rattle.state_commands.specs.StateEffects.{save_notes, save_reply};
 ghost use Rattle.command_session.specs.Answers.{OfSave};
-ghost use Rattle.command_session.specs.Doing.{Did, Keeps, IsUndone, IsOwn, IsExitAnswer, IsRefused};
+ghost use Rattle.command_session.specs.Doing.{Did, KeepsOwn, IsUndone, IsOwn, IsExitAnswer, IsRefused};
 
 use crate::state_faults::fault_of_save;
 use command_session::{CommandFault, Next, Session, note_writing, stamp_of, written_answer};
@@ -60,7 +60,7 @@ pub fn save<U: Unit, F: Files>(
         (notes_said session.old.notes) (notes_said session.new.notes) }
     ensures undone { (text : List ℕ) → result ≡ Err OutOfMemory
         → IsUndone true None true session.old session.new text text (F.state files.old) (F.state files.new) }
-    ensures keeps { Keeps session.old.command session.new.machine.time F.tells result session.old.notes
+    ensures keeps { KeepsOwn session.old.command session.new.machine.time F.tells result session.old.notes
         session.new.notes (F.state files.old) (F.state files.new) }
     ensures whose { AreOwn session.old.machine.slots session.new.machine.slots session.old.notes session.new.notes
         (F.state files.old) (F.state files.new) }
@@ -121,6 +121,7 @@ fn write_saved<F: Files>(alloc: Global, saved: &Saved, name: &str, files: &mut F
     ensures failed { IsNew result.failed (F.state files.old) (F.state files.new) }
     ensures closing { IsNew result.closing (F.state files.old) (F.state files.new) }
     ensures ids { (F.state files.old).given ≤ (F.state files.new).given }
+    ensures one { (F.state files.new).given ≤ (F.state files.old).given + 1 }
 {
     match write_state(alloc, saved) {
         Ok(text) => write_file(alloc, name, text.as_slice(), files),

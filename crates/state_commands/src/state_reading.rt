@@ -198,6 +198,7 @@ pub fn read_state_file<F: Files>(alloc: Global, name: &str, files: &mut F) -> St
     ensures failed { IsNew result.failed (F.state files.old) (F.state files.new) }
     ensures closing { IsNew result.closing (F.state files.old) (F.state files.new) }
     ensures ids { (F.state files.old).given ≤ (F.state files.new).given }
+    ensures one { (F.state files.new).given ≤ (F.state files.old).given + 1 }
     ensures taken { IfOk result.reader (λ reader. (F.state files.old).given < (F.state files.new).given) }
     ensures cause { WholeCause F.tells name.now (whole_of result).bytes (F.state files.old) (F.state files.new) }
 {

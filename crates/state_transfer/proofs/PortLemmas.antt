@@ -7,7 +7,7 @@ use Rattle.saved_files.specs.declared.file_faults.RestoreFault.{RestoreFault}
 use Rattle.saved_files.specs.declared.file_faults.RestoreFault.TheVariants as fault
 use Rattle.state_transfer.specs.Listening.{IsHeardOn, IsPortFault, LeavesLines, wants_port}
 use Rattle.saved_session.specs.Parts.{FilePart}
-use Rattle.saved_files.specs.RestoreCauses.{count_behind, IsCompared, OpeningsStand, SessionCause}
+use Rattle.saved_files.specs.RestoreCauses.{count_behind, openings_named, IsCompared, OpeningsStand, SessionCause}
 use Rattle.saved_files.specs.Restoring.{IsOfThese, IsOfSession}
 
 -- ---- behind the files
@@ -77,3 +77,11 @@ port-counts (fault.TooLong unit) is file count = absurd is
 port-counts (fault.Changed unit) is file count = absurd is
 port-counts fault.Port is file count = refl
 port-counts fault.OutOfMemory is file count = refl
+
+pub port-unopened : (tells : Bool) (e : RestoreFault) → IsPortFault e → openings_named tells (Err e) ≡ 0
+port-unopened tells (fault.Failed f) is = absurd is
+port-unopened tells (fault.NoFile unit) is = absurd is
+port-unopened tells (fault.TooLong unit) is = absurd is
+port-unopened tells (fault.Changed unit) is = absurd is
+port-unopened tells fault.Port is = refl
+port-unopened tells fault.OutOfMemory is = refl

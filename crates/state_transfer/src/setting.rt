@@ -1,5 +1,5 @@
 // A saved session is put back.
-ghost use Rattle.std.specs.Prelude.{◌≡◌, ℕ, List, Some, true, false, IsTrue, IsOk, OnOk, OnErr, IfErr};
+ghost use Rattle.std.specs.Prelude.{◌≡◌, ℕ, List, Some, true, false, IsTrue, IsOk, OnOk, OnErr, IfErr, length};
 ghost use Rattle.telnet_lines.specs.Line.{unconnected};
 ghost use Rattle.unit_files.specs.Attachments.{attachments_of, attachment_at, no_attachments};
 ghost use Rattle.unit_files.specs.Buffer.{nothing_attached, disk_unit};
@@ -12,7 +12,7 @@ ghost use Rattle.saved_session.specs.Parts.{state_in};
 ghost use Rattle.state_transfer.specs.PutBack.{machine_from};
 ghost use Rattle.saved_session.specs.SavedWatch.{watch_from};
 ghost use Rattle.state_transfer.specs.Putting.{IsPutBack, with_machine_of};
-ghost use Rattle.saved_files.specs.RestoreCauses.{ClosesOnce, IsCompared, SessionCause};
+ghost use Rattle.saved_files.specs.RestoreCauses.{ClosesOnce, IsCompared, OpensEach, SessionCause};
 ghost use Rattle.saved_files.specs.Restoring.{claim_in, copy_of, first_refused, with_all, IsOfSession, SaysFirst};
 ghost use Rattle.state_transfer.specs.SavedValid.{AreStandard};
 ghost use Rattle.saved_session.specs.Valid.{AreFiles, Valid};
@@ -111,6 +111,7 @@ pub fn put_outside<U: Unit, F: Files, L: Lines>(
     ensures from { AreFrom machine.old.slots machine.new.slots (F.state files.old) (F.state files.new) }
     ensures counts { OnlyNewCounts (F.state files.old) (F.state files.new) }
     ensures cause { SessionCause F.tells result (F.state files.old) (F.state files.new) }
+    ensures exact { OpensEach F.tells (length (state_in saved.now).files) result (F.state files.old) (F.state files.new) }
     ensures once { ClosesOnce result (F.state files.old) (F.state files.new) }
     ensures compared { IsCompared force result }
     ensures unasked { IfErr result (λ fault. (IsPortFault fault → ⊥) → lines.new ≡ lines.old) }
@@ -137,6 +138,7 @@ pub fn put_outside<U: Unit, F: Files, L: Lines>(
 /// changed, and, unless that is forced, compared in length and digest before the next; then the port is listened on.
 /// The refusals come in this order, `OutOfMemory` in front of each. Behind a refusal the machine and the tables are as
 /// they were, and each file that was opened is closed; a closing that fails is told by the count of its file alone.
+#[tactic(auto, using(saved_files::proofs::RestoreOpenings::opens_nothing))]
 pub fn set_state<U: Unit, F: Files, L: Lines>(
     alloc: Global,
     saved: &Saved,
@@ -175,6 +177,7 @@ pub fn set_state<U: Unit, F: Files, L: Lines>(
     ensures from { AreFrom machine.old.slots machine.new.slots (F.state files.old) (F.state files.new) }
     ensures counts { OnlyNewCounts (F.state files.old) (F.state files.new) }
     ensures cause { SessionCause F.tells result (F.state files.old) (F.state files.new) }
+    ensures exact { OpensEach F.tells (length (state_in saved.now).files) result (F.state files.old) (F.state files.new) }
     ensures once { ClosesOnce result (F.state files.old) (F.state files.new) }
     ensures compared { IsCompared force result }
     ensures unasked { IfErr result (λ fault. (IsPortFault fault → ⊥) → lines.new ≡ lines.old) }

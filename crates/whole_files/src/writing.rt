@@ -1,4 +1,4 @@
-ghost use Rattle.std.specs.Prelude.{◌≡◌, ◌≢◌, ◌<◌, ◌≤◌, ℕ, IsTrue, IfSome, Err, length, if◌then◌else◌};
+ghost use Rattle.std.specs.Prelude.{◌≡◌, ◌≢◌, ◌+◌, ◌<◌, ◌≤◌, ℕ, IsTrue, IfSome, Err, length, if◌then◌else◌};
 ghost use Rattle.fault_counts.specs.Faults.{raised};
 ghost use Rattle.whole_files.specs.Claims.{raised_by, IsNew};
 ghost use Rattle.whole_files.specs.Writing.{write_act, said_of_writing, claimed_in_writing, HasWriteShape, WasNotOpened};
@@ -26,7 +26,7 @@ pub struct Written {
 /// Makes the file of a name, or empties it where there is one, writes these bytes in one call, and closes it again,
 /// whatever comes of it. `Failed` comes where its opening or the write failed: behind a write the file has the first
 /// `done` bytes and no others. `OutOfMemory` comes where there is no memory for its opening, and `NoFile` where it
-/// can't be made; no file changes then.
+/// can't be made; no file changes then. At most this one is opened.
 #[tactic(auto, unfolding(crate::specs::Writing::write_act))]
 pub fn write_file<F: Files>(alloc: Global, name: &str, bytes: &[u8], files: &mut F) -> Written
     ensures said { IsTrue F.tells → IfSome (said_of_writing result.answer) (λ said.
@@ -45,6 +45,7 @@ pub fn write_file<F: Files>(alloc: Global, name: &str, bytes: &[u8], files: &mut
     ensures failed { IsNew result.failed (F.state files.old) (F.state files.new) }
     ensures closing { IsNew result.closing (F.state files.old) (F.state files.new) }
     ensures ids { (F.state files.old).given ≤ (F.state files.new).given }
+    ensures one { (F.state files.new).given ≤ (F.state files.old).given + 1 }
 {
     match files.open_file(alloc, name, OpenMode::Create) {
         Ok(file) => {

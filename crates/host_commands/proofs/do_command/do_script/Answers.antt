@@ -31,7 +31,7 @@ returns-clause-keeps g c =
     rw (← c.session.view_is)
     (read-keeps subject.Script s.command s.machine.time g.F.Files.tells (script_of c.args.echo c.args.strict) c.read_file-whole.result c.script_answer.result s.notes.items c.note_reading.new.notes.items
     (g.F.Files.state c.args.files.now) (g.F.Files.state c.read_file-whole.new.files) (λ bytes kept shut. shut) c.script_answer.ensures read.shape
-    (record { counts = read.counts; openings = read.openings; ids = read.ids })
+    (record { counts = read.counts; openings = read.openings; ids = read.ids; one = read.one })
     (c.note_reading.ensures.notes ∙ ap (λ (t : Stamp). s.notes.items ++ read_notes subject.Script t c.read_file-whole.result) stamped))
 
 pub returns-clause-undone : goal.returns-clause-undone

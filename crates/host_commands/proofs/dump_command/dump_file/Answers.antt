@@ -11,7 +11,7 @@ use Rattle.command_session.specs.Reply.{refused}
 use Rattle.command_session.specs.TapeEffects.{can_dump, dump_of, dump_after, dump_reply}
 use Rattle.command_session.specs.WholeCalls.{write_calls}
 use Rattle.command_session.proofs.DidLemmas.{did-of, did-as, did-want, refused-does}
-use Rattle.command_session.proofs.KeptLemmas.{keeps-none}
+use Rattle.command_session.proofs.KeptLemmas.{keeps-none, keeps-own}
 use Rattle.host_commands.proofs.TapeLemmas.{dump-fits, dump-refused}
 use Rattle.host_commands.proofs.dump_command.dump_file.Goals as goal
 
@@ -28,7 +28,8 @@ returns-then-not-can_dump-clause-told g c = λ lines whole tells text told.
 pub returns-then-not-can_dump-clause-keeps : goal.returns-then-not-can_dump-clause-keeps
 returns-then-not-can_dump-clause-keeps g c =
     let s = c.args.session.now in
-    keeps-none s.command s.machine.time g.F.Files.tells (Err OutOfRange) s.notes s.notes (g.F.Files.state c.args.files.now) refl tt
+    keeps-own s.command s.machine.time g.F.Files.tells (Err OutOfRange) s.notes s.notes (g.F.Files.state c.args.files.now) (g.F.Files.state c.args.files.now)
+    (keeps-none s.command s.machine.time g.F.Files.tells (Err OutOfRange) s.notes s.notes (g.F.Files.state c.args.files.now) refl tt)
 
 pub returns-in-Ok-clause-told : goal.returns-in-Ok-clause-told
 returns-in-Ok-clause-told g c = λ lines whole tells text told.
@@ -58,7 +59,8 @@ returns-in-Err-clause-told g c = λ lines whole tells text told.
 pub returns-in-Err-clause-keeps : goal.returns-in-Err-clause-keeps
 returns-in-Err-clause-keeps g c =
     let s = c.args.session.now in
-    keeps-none s.command s.machine.time g.F.Files.tells (Err OutOfMemory) s.notes s.notes (g.F.Files.state c.args.files.now) refl tt
+    keeps-own s.command s.machine.time g.F.Files.tells (Err OutOfMemory) s.notes s.notes (g.F.Files.state c.args.files.now) (g.F.Files.state c.args.files.now)
+    (keeps-none s.command s.machine.time g.F.Files.tells (Err OutOfMemory) s.notes s.notes (g.F.Files.state c.args.files.now) refl tt)
 
 pub returns-then-not-can_dump-clause-whose : goal.returns-then-not-can_dump-clause-whose
 returns-then-not-can_dump-clause-whose g c =

@@ -34,7 +34,7 @@ returns-clause-keeps g c =
     rw (← c.session.view_is)
     (write-keeps subject.Dump s.command s.machine.time g.F.Files.tells c.args.tape.now w c.written_answer.result s.notes.items
     c.note_writing.new.notes.items (g.F.Files.state c.args.files.now) (g.F.Files.state c.write_file-written.new.files)
-    c.written_answer.ensures write.shape (omega (arith, write.shape.done, c.requires.size)) (record { counts = write.counts; openings = write.openings; ids = write.ids })
+    c.written_answer.ensures write.shape (omega (arith, write.shape.done, c.requires.size)) (record { counts = write.counts; openings = write.openings; ids = write.ids; one = write.one })
     (c.note_writing.ensures.notes ∙ ap (λ (t : Stamp). s.notes.items ++ write_notes subject.Dump t w) stamped))
 
 pub returns-clause-undone : goal.returns-clause-undone

@@ -6,12 +6,12 @@ use Rattle.scp_parser.specs.Command.{request_of, Request, Attach, AttachPort, De
 use Rattle.nova_machine.specs.Comes.{output}
 use Rattle.command_session.specs.Live.{CommandState, live_in, beyond}
 use Rattle.command_session.specs.Nature.{nature}
-use Rattle.command_session.specs.Doing.{says_files, attaches_file, IsTold, IsRefused, Did}
+use Rattle.command_session.specs.Doing.{says_files, opens_of, OpensNone, OpensOwn, OpensForUnit, IsTold, IsRefused, Did}
 use Rattle.command_session.specs.LinesLeft.{IsUnlistened, ListenCause}
 use Rattle.command_session.specs.Refusals.{IsMeasured, IsUnrefused}
 use Rattle.command_session.specs.LineEffects.{attach_port_reply, disconnect_reply}
 use Rattle.command_session.specs.ExitEffects.{exit_reply}
-use Rattle.command_session.specs.FileEffects.{attach_reply, detach_one_or_all}
+use Rattle.command_session.specs.FileEffects.{mode_of, attach_reply, detach_one_or_all}
 use Rattle.command_session.specs.TapeEffects.{load_reply, dump_reply}
 use Rattle.command_session.proofs.AskedAnswers.{by-asks, can-by}
 use Rattle.command_session.proofs.KeptLemmas.{lines-kept, keeps-none, port-no-file}
@@ -157,8 +157,8 @@ returns-in-AttachPort-clause-told g c = λ told whole first tells printed.
 pub returns-in-AttachPort-clause-keeps : goal.returns-in-AttachPort-clause-keeps
 returns-in-AttachPort-clause-keeps g c =
     let asks = sym c.command.view_is ∙ ap (request_of _) c.in-AttachPort.is in
-    kept-as false c.args.command.now c.args.session.now.command c.attach_port.new.session.machine.time g.F.Files.tells c.attach_port.result c.args.session.now.notes c.attach_port.new.session.notes
-    (g.F.Files.state c.args.files.now) (g.F.Files.state c.args.files.now) (ap attaches_file asks)
+    kept-as OpensNone c.args.command.now c.args.session.now.command c.attach_port.new.session.machine.time g.F.Files.tells c.attach_port.result c.args.session.now.notes c.attach_port.new.session.notes
+    (g.F.Files.state c.args.files.now) (g.F.Files.state c.args.files.now) (ap opens_of asks)
     (keeps-none c.args.session.now.command c.attach_port.new.session.machine.time g.F.Files.tells c.attach_port.result c.args.session.now.notes c.attach_port.new.session.notes (g.F.Files.state c.args.files.now)
     (ap (λ (x : CommandState). x.notes) c.attach_port.ensures.rest) (port-no-file c.attach_port.result c.attach_port.ensures.own))
 
@@ -208,8 +208,8 @@ returns-in-Disconnect-clause-told g c = λ told whole first tells printed.
 pub returns-in-Disconnect-clause-keeps : goal.returns-in-Disconnect-clause-keeps
 returns-in-Disconnect-clause-keeps g c =
     let asks = sym c.command.view_is ∙ ap (request_of _) c.in-Disconnect.is in
-    kept-as false c.args.command.now c.args.session.now.command c.disconnect.new.session.machine.time g.F.Files.tells c.disconnect.result c.args.session.now.notes c.disconnect.new.session.notes
-    (g.F.Files.state c.args.files.now) (g.F.Files.state c.args.files.now) (ap attaches_file asks)
+    kept-as OpensNone c.args.command.now c.args.session.now.command c.disconnect.new.session.machine.time g.F.Files.tells c.disconnect.result c.args.session.now.notes c.disconnect.new.session.notes
+    (g.F.Files.state c.args.files.now) (g.F.Files.state c.args.files.now) (ap opens_of asks)
     (keeps-none c.args.session.now.command c.disconnect.new.session.machine.time g.F.Files.tells c.disconnect.result c.args.session.now.notes c.disconnect.new.session.notes (g.F.Files.state c.args.files.now)
     (ap (λ (x : CommandState). x.notes) c.disconnect.ensures.rest) (port-no-file c.disconnect.result c.disconnect.ensures.port))
 
@@ -437,35 +437,35 @@ returns-in-Dump-clause-works g c =
 pub returns-in-Attach-clause-keeps : goal.returns-in-Attach-clause-keeps
 returns-in-Attach-clause-keeps g c =
     let asks = sym c.command.view_is ∙ ap (request_of _) c.in-Attach.is in
-    kept-as true c.args.command.now c.args.session.now.command c.attach.new.session.machine.time g.F.Files.tells c.attach.result c.args.session.now.notes c.attach.new.session.notes
-    (g.F.Files.state c.args.files.now) (g.F.Files.state c.attach.new.files) (ap attaches_file asks) c.attach.ensures.keeps
+    kept-as (OpensForUnit (mode_of c.in-Attach.option)) c.args.command.now c.args.session.now.command c.attach.new.session.machine.time g.F.Files.tells c.attach.result c.args.session.now.notes c.attach.new.session.notes
+    (g.F.Files.state c.args.files.now) (g.F.Files.state c.attach.new.files) (ap opens_of asks) c.attach.ensures.keeps
 
 pub returns-in-Do-clause-keeps : goal.returns-in-Do-clause-keeps
 returns-in-Do-clause-keeps g c =
     let asks = sym c.command.view_is ∙ ap (request_of _) c.in-Do.is in
-    kept-as false c.args.command.now c.args.session.now.command c.do_script.new.session.machine.time g.F.Files.tells c.do_script.result c.args.session.now.notes c.do_script.new.session.notes
-    (g.F.Files.state c.args.files.now) (g.F.Files.state c.do_script.new.files) (ap attaches_file asks) c.do_script.ensures.keeps
+    kept-as OpensOwn c.args.command.now c.args.session.now.command c.do_script.new.session.machine.time g.F.Files.tells c.do_script.result c.args.session.now.notes c.do_script.new.session.notes
+    (g.F.Files.state c.args.files.now) (g.F.Files.state c.do_script.new.files) (ap opens_of asks) c.do_script.ensures.keeps
 
 pub returns-in-Load-clause-keeps : goal.returns-in-Load-clause-keeps
 returns-in-Load-clause-keeps g c =
     let asks = sym c.command.view_is ∙ ap (request_of _) c.in-Load.is in
-    kept-as false c.args.command.now c.args.session.now.command c.load_file.new.session.machine.time g.F.Files.tells c.load_file.result c.args.session.now.notes c.load_file.new.session.notes
-    (g.F.Files.state c.args.files.now) (g.F.Files.state c.load_file.new.files) (ap attaches_file asks) c.load_file.ensures.keeps
+    kept-as OpensOwn c.args.command.now c.args.session.now.command c.load_file.new.session.machine.time g.F.Files.tells c.load_file.result c.args.session.now.notes c.load_file.new.session.notes
+    (g.F.Files.state c.args.files.now) (g.F.Files.state c.load_file.new.files) (ap opens_of asks) c.load_file.ensures.keeps
 
 pub returns-in-Dump-clause-keeps : goal.returns-in-Dump-clause-keeps
 returns-in-Dump-clause-keeps g c =
     let asks = sym c.command.view_is ∙ ap (request_of _) c.in-Dump.is in
-    kept-as false c.args.command.now c.args.session.now.command c.dump_file.new.session.machine.time g.F.Files.tells c.dump_file.result c.args.session.now.notes c.dump_file.new.session.notes
-    (g.F.Files.state c.args.files.now) (g.F.Files.state c.dump_file.new.files) (ap attaches_file asks) c.dump_file.ensures.keeps
+    kept-as OpensOwn c.args.command.now c.args.session.now.command c.dump_file.new.session.machine.time g.F.Files.tells c.dump_file.result c.args.session.now.notes c.dump_file.new.session.notes
+    (g.F.Files.state c.args.files.now) (g.F.Files.state c.dump_file.new.files) (ap opens_of asks) c.dump_file.ensures.keeps
 
 pub returns-in-Detach-clause-keeps : goal.returns-in-Detach-clause-keeps
 returns-in-Detach-clause-keeps g c =
     let asks = sym c.command.view_is ∙ ap (request_of _) c.in-Detach.is in
-    kept-as false c.args.command.now c.args.session.now.command c.detach_one_or_every.new.session.machine.time g.F.Files.tells c.detach_one_or_every.result c.args.session.now.notes c.detach_one_or_every.new.session.notes
-    (g.F.Files.state c.args.files.now) (g.F.Files.state c.detach_one_or_every.new.files) (ap attaches_file asks) c.detach_one_or_every.ensures.keeps
+    kept-as OpensNone c.args.command.now c.args.session.now.command c.detach_one_or_every.new.session.machine.time g.F.Files.tells c.detach_one_or_every.result c.args.session.now.notes c.detach_one_or_every.new.session.notes
+    (g.F.Files.state c.args.files.now) (g.F.Files.state c.detach_one_or_every.new.files) (ap opens_of asks) c.detach_one_or_every.ensures.keeps
 
 pub returns-in-Exit-clause-keeps : goal.returns-in-Exit-clause-keeps
 returns-in-Exit-clause-keeps g c =
     let asks = sym c.command.view_is ∙ ap (request_of _) c.in-Exit.is in
-    kept-as false c.args.command.now c.args.session.now.command c.exit.new.session.machine.time g.F.Files.tells c.exit.result c.args.session.now.notes c.exit.new.session.notes
-    (g.F.Files.state c.args.files.now) (g.F.Files.state c.exit.new.files) (ap attaches_file asks) c.exit.ensures.keeps
+    kept-as OpensNone c.args.command.now c.args.session.now.command c.exit.new.session.machine.time g.F.Files.tells c.exit.result c.args.session.now.notes c.exit.new.session.notes
+    (g.F.Files.state c.args.files.now) (g.F.Files.state c.exit.new.files) (ap opens_of asks) c.exit.ensures.keeps

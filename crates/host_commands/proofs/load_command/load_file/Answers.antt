@@ -7,7 +7,7 @@ use Rattle.nova_machine.specs.Machine.{MachineState}
 use Rattle.nova_machine.specs.Seen.{seen, beside}
 use Rattle.command_session.specs.Live.{CommandState}
 use Rattle.command_session.specs.WholeCalls.{read_notes}
-use Rattle.command_session.specs.Doing.{Keeps}
+use Rattle.command_session.specs.Doing.{KeepsOwn}
 use Rattle.command_session.proofs.BehindLemmas.{stamp_in}
 use Rattle.command_session.proofs.WholeLemmas.{read-claims, read-keeps, short-read, read-own, unread-cause}
 use Rattle.host_commands.proofs.TapeLemmas.{tape_comes, tape-plain, tape-own, tape-cause, tape-closings, read-slots, read-lines, read-time, read-none, load-did}
@@ -42,10 +42,10 @@ returns-clause-keeps g c =
     let time : c.load_bytes.new.machine.time ≡ s.machine.time =
     ap (λ (m : MachineState). m.time) c.load_bytes.ensures.machine ∙ read-time whole.bytes s.machine in
     rw (← c.session.view_is)
-    (subst (λ (t : ℕ). Keeps s.command t g.F.Files.tells c.load_bytes.result s.notes.items c.note_reading.new.notes.items before after) (sym time)
+    (subst (λ (t : ℕ). KeepsOwn s.command t g.F.Files.tells c.load_bytes.result s.notes.items c.note_reading.new.notes.items before after) (sym time)
     (read-keeps subject.Load s.command s.machine.time g.F.Files.tells (tape_comes s.machine) whole c.load_bytes.result s.notes.items
     c.note_reading.new.notes.items before after (λ bytes. tape-closings stamp g.F.Files.tells s.machine bytes before after)
-    c.load_bytes.ensures.answer read.shape (record { counts = read.counts; openings = read.openings; ids = read.ids })
+    c.load_bytes.ensures.answer read.shape (record { counts = read.counts; openings = read.openings; ids = read.ids; one = read.one })
     (c.note_reading.ensures.notes ∙ ap (λ (t : Stamp). s.notes.items ++ read_notes subject.Load t whole) stamped)))
 
 pub returns-clause-undone : goal.returns-clause-undone

@@ -5,10 +5,13 @@ use Rattle.unit_files.specs.Buffer.{AttachedFiles}
 use Rattle.nova_machine.specs.Machine.{MachineState, with_attached_files}
 use Rattle.nova_machine.specs.Seen.{seen, beside}
 use Rattle.command_session.specs.declared.next.Next.TheVariants.{Go}
-use Rattle.command_session.specs.Doing.{KeepsAs}
+use Rattle.unit_files.specs.declared.modes.AttachMode.{AttachMode}
+use Rattle.unit_files.specs.Causes.{CountsAttach}
+use Rattle.command_session.specs.FileEffects.{mode_of}
+use Rattle.command_session.specs.Doing.{OpensForUnit, KeepsAs}
 use Rattle.command_session.proofs.SeenLemmas.{attached-erased}
 use Rattle.command_session.proofs.BehindLemmas.{stamp_in}
-use Rattle.host_commands.proofs.AttachLemmas.{begins-within, attach-lacking, attach-done, becomes-attached, becomes-refused, attach-keeps}
+use Rattle.host_commands.proofs.AttachLemmas.{begins-within, attach-lacking, attach-done, becomes-attached, becomes-refused, attach-untried, attach-keeps}
 use Rattle.unit_list.specs.Bus.{kinds_of}
 use Rattle.host_commands.proofs.FileKinds.{positioned-kinds}
 use Rattle.host_commands.proofs.AttachTables.{lacking-by-tables, attach-tables, opened-by-cause}
@@ -69,6 +72,12 @@ returns-in-Err-clause-told g c = λ lines whole tells text told.
       noted = done.notes;
     }))
 
+pub returns-then-lacks_unit-clause-keeps : goal.returns-then-lacks_unit-clause-keeps
+returns-then-lacks_unit-clause-keeps g c =
+    let s = c.session.inside in
+    rw (← c.session.view_is)
+    (attach-untried (mode_of c.args.option) s.command s.machine.time g.F.Files.tells s.notes.items s.notes.items (g.F.Files.state c.args.files.now) refl)
+
 pub returns-in-Ok-clause-keeps : goal.returns-in-Ok-clause-keeps
 returns-in-Ok-clause-keeps g c =
     let s = c.session.inside in
@@ -78,18 +87,21 @@ returns-in-Ok-clause-keeps g c =
     let done = c.in-Ok.ensures in
     let time_is : c.set_position.new.machine.time ≡ s.machine.time = ap (λ (m : MachineState). m.time) c.set_position.ensures in
     rw (← c.session.view_is)
-    (subst (λ (time : ℕ). KeepsAs true s.command time g.F.Files.tells (Ok Go) s.notes.items notes before after) (sym time_is)
-    (attach-keeps s.command s.machine.time c.stamp_of-stamp.result g.F.Files.tells c.args.unit (Ok c.in-Ok.count) (Ok Go) s.notes.items notes before after
-    (c.stamp_of-stamp.ensures ∙ ap stamp_in (sym c.session.view_is)) refl done.notes done.counted done.own done.missing done.cause done.whose.ids))
+    (subst (λ (time : ℕ). KeepsAs (OpensForUnit (mode_of c.args.option)) s.command time g.F.Files.tells (Ok Go) s.notes.items notes before after) (sym time_is)
+    (attach-keeps (mode_of c.args.option) s.command s.machine.time c.stamp_of-stamp.result g.F.Files.tells c.args.unit (Ok c.in-Ok.count) (Ok Go) s.notes.items notes before after
+    (c.stamp_of-stamp.ensures ∙ ap stamp_in (sym c.session.view_is)) refl done.notes done.counted done.own done.missing done.cause
+    (subst (λ (mode : AttachMode). CountsAttach mode g.F.Files.tells (Ok c.in-Ok.count) before after) c.mode_of-mode.ensures done.exact) done.whose.ids))
 
 pub returns-in-Err-clause-keeps : goal.returns-in-Err-clause-keeps
 returns-in-Err-clause-keeps g c =
     let s = c.session.inside in
     let done = c.in-Err.ensures in
     rw (← c.session.view_is)
-    (attach-keeps s.command s.machine.time c.stamp_of-stamp.result g.F.Files.tells c.args.unit (Err c.in-Err.fault) (Err c.of_attach.result) s.notes.items c.attach_unit.new.notes.items
+    (attach-keeps (mode_of c.args.option) s.command s.machine.time c.stamp_of-stamp.result g.F.Files.tells c.args.unit (Err c.in-Err.fault) (Err c.of_attach.result) s.notes.items c.attach_unit.new.notes.items
     (g.F.Files.state c.args.files.now) (g.F.Files.state c.attach_unit.new.files)
-    (c.stamp_of-stamp.ensures ∙ ap stamp_in (sym c.session.view_is)) (ap Err c.of_attach.ensures) done.notes done.counted done.own done.missing done.cause done.whose.ids)
+    (c.stamp_of-stamp.ensures ∙ ap stamp_in (sym c.session.view_is)) (ap Err c.of_attach.ensures) done.notes done.counted done.own done.missing done.cause
+    (subst (λ (mode : AttachMode). CountsAttach mode g.F.Files.tells (Err c.in-Err.fault) (g.F.Files.state c.args.files.now) (g.F.Files.state c.attach_unit.new.files)) c.mode_of-mode.ensures done.exact)
+    done.whose.ids)
 
 pub returns-in-Ok-clause-kinds : goal.returns-in-Ok-clause-kinds
 returns-in-Ok-clause-kinds g c =

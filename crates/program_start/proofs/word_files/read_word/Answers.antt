@@ -28,4 +28,4 @@ pub returns-clause-unread : goal.returns-clause-unread
 returns-clause-unread g c =
     let read = c.read_file-whole.ensures in
     word-cause g.F.Files.tells c.args.whose (string_bytes c.args.name.now) c.as_str.result.now c.args.notes.now.items c.note_call.new.notes.items c.note_call-2.new.notes.items c.read_file-whole.result
-    (g.F.Files.state c.args.files.now) (g.F.Files.state c.read_file-whole.new.files) c.note_call.ensures.notes c.note_call-2.ensures.notes c.as_str.ensures.value read.shape read.counts read.openings read.ids read.cause
+    (g.F.Files.state c.args.files.now) (g.F.Files.state c.read_file-whole.new.files) c.note_call.ensures.notes c.note_call-2.ensures.notes c.as_str.ensures.value read.shape read.counts read.openings read.ids read.one read.cause

@@ -4,7 +4,7 @@ use Rattle.command_session.specs.Live.{CommandState, live_in, beyond}
 use Rattle.nova_machine.specs.Comes.{output}
 use Rattle.command_session.specs.declared.fault.CommandFault.TheVariants.{OutOfMemory}
 use Rattle.scp_commands.specs.Effect.{effect}
-use Rattle.command_session.specs.Doing.{is_restore, attaches_file}
+use Rattle.command_session.specs.Doing.{is_restore, opens_of}
 use Rattle.command_session.proofs.DidLemmas.{did-want}
 use Rattle.command_session.proofs.KeptLemmas.{lines-kept}
 use Rattle.command_session.proofs.ListenLemmas.{unlistened}
@@ -40,7 +40,7 @@ returns-in-Err-clause-listening g c =
 
 pub returns-in-Err-clause-keeps : goal.returns-in-Err-clause-keeps
 returns-in-Err-clause-keeps g c =
-    want-kept (is_restore c.args.command.now) (attaches_file c.args.command.now) c.args.session.now.command c.args.session.now.machine.time c.take_room.new.self.machine.time g.F.Files.tells
+    want-kept (is_restore c.args.command.now) (opens_of c.args.command.now) c.args.session.now.command c.args.session.now.machine.time c.take_room.new.self.machine.time g.F.Files.tells
     c.args.session.now.notes c.take_room.new.self.notes (g.F.Files.state c.args.files.now) (ap (λ (x : CommandState). x.notes) c.in-Err.ensures.rest)
 
 pub returns-in-Err-clause-works : goal.returns-in-Err-clause-works

@@ -8,7 +8,7 @@ use Rattle.command_session.proofs.KeptLemmas.{lines-kept}
 use Rattle.scp_commands.proofs.ObeyLemmas.{noted-did, save-named, restore-named, as-kept}
 use Rattle.command_session.proofs.ListenLemmas.{unlistened, own-no-port}
 use Rattle.command_session.specs.Nature.{nature}
-use Rattle.command_session.specs.Doing.{says_files, IsTold, IsUndone, KeepsBy, is_restore, attaches_file, Did}
+use Rattle.command_session.specs.Doing.{says_files, IsTold, IsUndone, KeepsBy, is_restore, OpensOwn, opens_of, Did}
 use Rattle.host_commands.proofs.HostLemmas.{kept-as}
 use Rattle.command_session.specs.Remains.{AreLeft}
 use Rattle.state_commands.specs.StateEffects.{save_reply, restore_reply}
@@ -72,8 +72,8 @@ returns-in-Save-clause-keeps g c =
     as-kept c.args.command.now c.args.session.now.command c.args.session.now.machine.time c.save.new.session.machine.time g.F.Files.tells c.save.result
     c.args.session.now.notes c.save.new.session.notes (g.F.Files.state c.args.files.now) (g.F.Files.state c.save.new.files)
     (ap is_restore (sym c.command.view_is ∙ ap (request_of _) c.in-Save.is))
-    (kept-as false c.args.command.now c.args.session.now.command c.save.new.session.machine.time g.F.Files.tells c.save.result c.args.session.now.notes c.save.new.session.notes
-    (g.F.Files.state c.args.files.now) (g.F.Files.state c.save.new.files) (ap attaches_file (sym c.command.view_is ∙ ap (request_of _) c.in-Save.is)) c.save.ensures.keeps)
+    (kept-as OpensOwn c.args.command.now c.args.session.now.command c.save.new.session.machine.time g.F.Files.tells c.save.result c.args.session.now.notes c.save.new.session.notes
+    (g.F.Files.state c.args.files.now) (g.F.Files.state c.save.new.files) (ap opens_of (sym c.command.view_is ∙ ap (request_of _) c.in-Save.is)) c.save.ensures.keeps)
 
 pub returns-in-Restore-clause-told : goal.returns-in-Restore-clause-told
 unfolding effect
@@ -136,7 +136,7 @@ returns-in-Restore-clause-unrefused g c = λ is.
 
 pub returns-in-Restore-clause-keeps : goal.returns-in-Restore-clause-keeps
 returns-in-Restore-clause-keeps g c =
-    subst (λ (r : Request). KeepsBy (is_restore r) (attaches_file r) c.args.session.now.command c.args.session.now.machine.time c.restore.new.session.machine.time g.F.Files.tells c.restore.result
+    subst (λ (r : Request). KeepsBy (is_restore r) (opens_of r) c.args.session.now.command c.args.session.now.machine.time c.restore.new.session.machine.time g.F.Files.tells c.restore.result
     c.args.session.now.notes c.restore.new.session.notes (g.F.Files.state c.args.files.now) (g.F.Files.state c.restore.new.files))
     (sym (sym c.command.view_is ∙ ap (request_of _) c.in-Restore.is)) c.restore.ensures.keeps
 

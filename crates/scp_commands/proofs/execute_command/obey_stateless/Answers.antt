@@ -18,8 +18,9 @@ use Rattle.scp_commands.specs.Effect.{effect}
 use Rattle.scp_commands.proofs.AnswerLemmas.{untold-stays}
 use Rattle.scp_commands.proofs.CanLemmas.{untold-tables, untold-can}
 use Rattle.scp_commands.proofs.WorkLemmas.{untold-works}
+use Rattle.command_session.specs.Doing.{OpensNone}
 use Rattle.host_commands.proofs.HostLemmas.{kept-as}
-use Rattle.scp_commands.proofs.ObeyLemmas.{run-attaches, untold-attaches}
+use Rattle.scp_commands.proofs.ObeyLemmas.{run-opens, untold-opens}
 use Rattle.scp_commands.proofs.ObeyLemmas.{run-is, run-told, run-no-listener, run-line, run-measured, run-works, run-note}
 use Rattle.scp_commands.proofs.ObeyLemmas.{host-is, host-line, host-works, host-counts, host-ran, host-stops, host-no-fault}
 use Rattle.scp_commands.proofs.ObeyLemmas.{untold-is, untold-measured, untold-note, untold-no-port, untold-no-fault, untold-ran, untold-stops}
@@ -143,14 +144,14 @@ returns-in-Untold-clause-works g c = untold-works c.args.command.now c.obey_unto
 
 pub returns-in-Untold-clause-keeps : goal.returns-in-Untold-clause-keeps
 returns-in-Untold-clause-keeps g c =
-    kept-as false c.args.command.now c.args.session.now.command c.obey_untold.new.session.machine.time g.F.Files.tells c.obey_untold.result c.args.session.now.notes c.obey_untold.new.session.notes
-    (g.F.Files.state c.args.files.now) (g.F.Files.state c.args.files.now) (untold-attaches c.args.command.now (c.family_of.ensures.untold c.in-Untold.is))
+    kept-as OpensNone c.args.command.now c.args.session.now.command c.obey_untold.new.session.machine.time g.F.Files.tells c.obey_untold.result c.args.session.now.notes c.obey_untold.new.session.notes
+    (g.F.Files.state c.args.files.now) (g.F.Files.state c.args.files.now) (untold-opens c.args.command.now (c.family_of.ensures.untold c.in-Untold.is))
     (c.obey_untold.ensures.keeps g.F.Files.tells (g.F.Files.state c.args.files.now))
 
 pub returns-in-Run-clause-keeps : goal.returns-in-Run-clause-keeps
 returns-in-Run-clause-keeps g c =
-    kept-as false c.args.command.now c.args.session.now.command c.obey_run.new.session.machine.time g.F.Files.tells c.obey_run.result c.args.session.now.notes c.obey_run.new.session.notes
-    (g.F.Files.state c.args.files.now) (g.F.Files.state c.obey_run.new.files) (run-attaches c.args.command.now (c.family_of.ensures.run c.in-Run.is)) c.obey_run.ensures.done.keeps
+    kept-as OpensNone c.args.command.now c.args.session.now.command c.obey_run.new.session.machine.time g.F.Files.tells c.obey_run.result c.args.session.now.notes c.obey_run.new.session.notes
+    (g.F.Files.state c.args.files.now) (g.F.Files.state c.obey_run.new.files) (run-opens c.args.command.now (c.family_of.ensures.run c.in-Run.is)) c.obey_run.ensures.done.keeps
 
 pub returns-in-Untold-clause-whose : goal.returns-in-Untold-clause-whose
 returns-in-Untold-clause-whose g c =

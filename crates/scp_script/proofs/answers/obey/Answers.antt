@@ -21,7 +21,7 @@ use Rattle.scp_script.proofs.PortLemmas.{IsUnasked, still-seen, live-still}
 use Rattle.scp_script.proofs.NoteLemmas.{never-short}
 use Rattle.scp_script.proofs.NextLemmas.{room-next, exit-next, untold-next}
 use Rattle.scp_script.proofs.SpendingLemmas.{no-exit, opens-failed}
-use Rattle.command_session.specs.Doing.{is_restore, attaches_file, told_by}
+use Rattle.command_session.specs.Doing.{is_restore, opens_of, told_by}
 use Rattle.command_session.specs.Nature.{Telling}
 use Rattle.host_lines.specs.Told.{record_in}
 use Rattle.nova_machine.proofs.LineSteps.{first-same}
@@ -162,12 +162,12 @@ returns-in-Err-clause-still g c = λ used untold.
 
 pub returns-clause-keeps : goal.returns-clause-keeps
 returns-clause-keeps g c =
-    kept-by (is_restore c.args.command.now) (attaches_file c.args.command.now) c.args.session.now.command c.args.session.now.machine.time c.execute.new.session.machine.time g.F.Files.tells c.execute.result
+    kept-by (is_restore c.args.command.now) (opens_of c.args.command.now) c.args.session.now.command c.args.session.now.machine.time c.execute.new.session.machine.time g.F.Files.tells c.execute.result
     c.args.session.now.notes c.execute.new.session.notes (g.F.Files.state c.args.files.now) (g.F.Files.state c.execute.new.files) c.execute.ensures.keeps
 
 pub returns-in-Err-clause-keeps : goal.returns-in-Err-clause-keeps
 returns-in-Err-clause-keeps g c =
-    kept-by (is_restore c.args.command.now) (attaches_file c.args.command.now) c.args.session.now.command c.args.session.now.machine.time c.execute.new.session.machine.time g.F.Files.tells c.execute.result
+    kept-by (is_restore c.args.command.now) (opens_of c.args.command.now) c.args.session.now.command c.args.session.now.machine.time c.execute.new.session.machine.time g.F.Files.tells c.execute.result
     c.args.session.now.notes c.execute.new.session.notes (g.F.Files.state c.args.files.now) (g.F.Files.state c.execute.new.files) c.execute.ensures.keeps
 
 -- ---- an exit, and the scripts

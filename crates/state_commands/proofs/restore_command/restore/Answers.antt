@@ -33,12 +33,13 @@ use Rattle.state_commands.specs.StateReading.{WasFed, bytes_for, whole_of}
 use Rattle.state_commands.proofs.StateReadingLemmas.{says_unread, says_read, fed_with}
 use Rattle.command_session.proofs.BehindLemmas.{stamp_in}
 use Rattle.command_session.proofs.DidLemmas.{refused-did}
-use Rattle.command_session.proofs.KeptLemmas.{lines-kept}
+use Rattle.command_session.proofs.KeptLemmas.{lines-kept, keeps-none, keeps-own}
 use Rattle.command_session.proofs.OwnFileLemmas.{whole-own}
 use Rattle.state_commands.proofs.RestoreLemmas.{occupied-reply, occupied-seen, unread-by, unfit-by, back-did}
 use Rattle.state_commands.proofs.RestoreLines.{restore-done, restore-refused, restore-unasked, back-ends, refused-by}
 use Rattle.state_commands.proofs.RestoreNotes.{restore-keeps, read-shut-notes, refused-restore-keeps, done-restore-keeps, restore-own, whole-fault, want-fault, want-why, no-notes}
 use Rattle.command_session.proofs.WholeLemmas.{own_both, read-claims, read-keeps, short-read, TakesClosings}
+use Rattle.saved_files.proofs.ValidFiles.{few-files}
 use Rattle.state_commands.proofs.RestoredCan.{restored-can}
 use Rattle.state_commands.proofs.StateWorkLemmas.{unread-works, unfit-works, refused-works}
 use Rattle.state_commands.proofs.restore_command.restore.Goals as goal
@@ -51,6 +52,14 @@ returns-then-is_occupied-clause-told g c = λ told telling apart whole first tel
     rw (← c.session.view_is)
     (refused-did (λ own. restore_reply own live c.args.force c.args.name.now) AlreadyAttached s.command live tells out _ tt
     (λ own. occupied-reply own live c.args.force c.args.name.now (occupied-seen ports s.machine ∙ sym c.is_occupied.ensures.test ∙ c.if-is_occupied.true)))
+
+pub returns-then-is_occupied-clause-keeps : goal.returns-then-is_occupied-clause-keeps
+returns-then-is_occupied-clause-keeps g c =
+    let s = c.args.session.now in
+    let state = g.F.Files.state c.args.files.now in
+    restore-keeps s.command s.machine.time s.machine.time g.F.Files.tells (Err AlreadyAttached) s.notes s.notes state state
+    (keeps-own s.command s.machine.time g.F.Files.tells (Err AlreadyAttached) s.notes s.notes state state
+    (keeps-none s.command s.machine.time g.F.Files.tells (Err AlreadyAttached) s.notes s.notes state refl tt))
 
 pub returns-then-is_occupied-clause-left : goal.returns-then-is_occupied-clause-left
 returns-then-is_occupied-clause-left g c = lines-kept g.L.Lines.tells (g.L.Lines.state c.args.lines.now) c.args.session.now.machine.lines c.args.session.now.machine.lines refl
@@ -108,7 +117,7 @@ returns-in-Err-clause-keeps g c =
     rw (← c.session.view_is)
     (restore-keeps s.command s.machine.time s.machine.time g.F.Files.tells (Err c.of_whole.result) s.notes.items c.note_state_reading.new.notes.items before mid
     (read-keeps subject.State s.command s.machine.time g.F.Files.tells (λ bytes. Ok Go) w (Err c.of_whole.result) s.notes.items c.note_state_reading.new.notes.items before mid
-    (λ bytes kept shut. shut) (ap Err c.of_whole.ensures ∙ sym (whole-fault w.bytes c.in-Err.fault (ap bytes_for c.in-Err.ensures.reader))) read.shape (record { counts = read.counts; openings = read.openings; ids = read.ids })
+    (λ bytes kept shut. shut) (ap Err c.of_whole.ensures ∙ sym (whole-fault w.bytes c.in-Err.fault (ap bytes_for c.in-Err.ensures.reader))) read.shape (record { counts = read.counts; openings = read.openings; ids = read.ids; one = read.one })
     (c.note_state_reading.ensures.notes ∙ ap (λ (t : Stamp). s.notes.items ++ read_notes subject.State t w) stamped)))
 
 pub returns-in-Err-saved_in-clause-told : goal.returns-in-Err-saved_in-clause-told
@@ -206,8 +215,9 @@ returns-in-Ok-set_state-clause-keeps g c =
     let stamped = c.stamp_of-stamp.ensures ∙ ap stamp_in (sym c.session.view_is) in
     rw (← c.session.view_is)
     (done-restore-keeps s.command s.machine.time c.set_state.new.machine.time g.F.Files.tells w c.in-Ok.reader.saved.words (ap bytes_for c.in-Ok.ensures.reader) read.shape (g.F.Files.state c.args.files.now)
-    (g.F.Files.state c.read_state_file-read.new.files) (g.F.Files.state c.set_state.new.files) (record { counts = read.counts; openings = read.openings; ids = read.ids }) c.in-Ok-set_state.ensures.counts
-    (g.met.F.Files.unused c.read_state_file-read.new.files) (g.met.F.Files.unused c.set_state.new.files) s.notes.items c.note_state_reading.new.notes.items c.in-Ok-set_state.ensures.cause.0
+    (g.F.Files.state c.read_state_file-read.new.files) (g.F.Files.state c.set_state.new.files) (record { counts = read.counts; openings = read.openings; ids = read.ids; one = read.one })
+    (state_in c.in-Ok-saved_in.saved).files (few-files (state_in c.in-Ok-saved_in.saved).files c.in-Ok-saved_in.ensures.valid.files) c.in-Ok-set_state.ensures.counts
+    (g.met.F.Files.unused c.read_state_file-read.new.files) (g.met.F.Files.unused c.set_state.new.files) s.notes.items c.note_state_reading.new.notes.items c.in-Ok-set_state.ensures.cause.0 c.in-Ok-set_state.ensures.exact
     (c.note_state_reading.ensures.notes ∙ ap (λ (t : Stamp). s.notes.items ++ read_notes subject.State t w) stamped))
 
 pub returns-in-Ok-set_state-clause-whose : goal.returns-in-Ok-set_state-clause-whose
@@ -325,8 +335,9 @@ returns-clause-keeps g c =
     let stamped = c.stamp_of-stamp.ensures ∙ ap stamp_in (sym c.session.view_is) in
     rw (← c.session.view_is)
     (refused-restore-keeps s.command s.machine.time c.set_state.new.machine.time g.F.Files.tells w c.in-Ok.reader.saved.words (ap bytes_for c.in-Ok.ensures.reader) read.shape (g.F.Files.state c.args.files.now)
-    (g.F.Files.state c.read_state_file-read.new.files) (g.F.Files.state c.set_state.new.files) (record { counts = read.counts; openings = read.openings; ids = read.ids }) set.counts
-    (g.met.F.Files.unused c.read_state_file-read.new.files) (g.met.F.Files.unused c.set_state.new.files) c.in-Err-set_state.fault (Err c.fault_of_restore.result) s.notes.items c.note_restoring.new.notes.items set.cause set.once (ap Err c.fault_of_restore.ensures)
+    (g.F.Files.state c.read_state_file-read.new.files) (g.F.Files.state c.set_state.new.files) (record { counts = read.counts; openings = read.openings; ids = read.ids; one = read.one })
+    (state_in c.in-Ok-saved_in.saved).files (few-files (state_in c.in-Ok-saved_in.saved).files c.in-Ok-saved_in.ensures.valid.files) set.counts
+    (g.met.F.Files.unused c.read_state_file-read.new.files) (g.met.F.Files.unused c.set_state.new.files) c.in-Err-set_state.fault (Err c.fault_of_restore.result) s.notes.items c.note_restoring.new.notes.items set.cause set.once set.exact (ap Err c.fault_of_restore.ensures)
     (c.note_restoring.ensures.notes
     ∙ (λ i. (c.note_state_reading.ensures.notes ∙ ap (λ (t : Stamp). s.notes.items ++ read_notes subject.State t w) stamped) i ++ restore_notes (stamped i) c.in-Err-set_state.fault)))
 
@@ -371,7 +382,7 @@ returns-in-Err-saved_in-clause-keeps g c =
     (read-keeps subject.State s.command s.machine.time g.F.Files.tells (λ bytes. Err (state_fault fault)) w (Err c.fault_of_state.result) s.notes.items c.note_state_reading.new.notes.items before mid
     (λ bytes. takes-unfit fault (record { command = s.command; time = s.machine.time }) g.F.Files.tells before mid)
     (ap Err c.fault_of_state.ensures ∙ sym (ap (whole_answer subject.State (λ bytes. Err (state_fault fault))) (ap bytes_for c.in-Ok.ensures.reader))) read.shape
-    (record { counts = read.counts; openings = read.openings; ids = read.ids })
+    (record { counts = read.counts; openings = read.openings; ids = read.ids; one = read.one })
     (c.note_state_reading.ensures.notes ∙ ap (λ (t : Stamp). s.notes.items ++ read_notes subject.State t w) stamped)))
 
 pub returns-clause-answers : goal.returns-clause-answers

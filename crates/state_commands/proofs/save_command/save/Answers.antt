@@ -14,7 +14,7 @@ use Rattle.command_session.specs.Live.{Live}
 use Rattle.command_session.specs.Remains.{MachineRemains, Remains}
 use Rattle.state_commands.specs.StateEffects.{save_notes}
 use Rattle.command_session.specs.WholeCalls.{write_notes}
-use Rattle.command_session.specs.Doing.{Keeps}
+use Rattle.command_session.specs.Doing.{KeepsOwn}
 use Rattle.command_session.proofs.BehindLemmas.{stamp_in}
 use Rattle.command_session.proofs.SeenLemmas.{attached-erased}
 use Rattle.state_commands.proofs.SaveLemmas.{saved-did, refused-did, quiet-keeps, refused-keeps, copy-left, flushed-live, flushed-remains, unless, unless-both, time-kept, remains-by}
@@ -77,10 +77,10 @@ returns-in-Ok-clause-keeps g c =
     let stamped = c.stamp_of-stamp.ensures ∙ ap stamp_in (sym c.session.view_is) in
     let time : c.take_state.new.machine.time ≡ s.machine.time = ap (λ (x : MachineState). x.time) taken.machine in
     rw (← c.session.view_is)
-    (subst (λ (t : ℕ). Keeps s.command t g.F.Files.tells c.written_answer.result s.notes.items c.note_writing.new.notes.items before after) (sym time)
+    (subst (λ (t : ℕ). KeepsOwn s.command t g.F.Files.tells c.written_answer.result s.notes.items c.note_writing.new.notes.items before after) (sym time)
     (quiet-keeps s.command s.machine.time g.F.Files.tells c.written_answer.result s.notes.items c.note_writing.new.notes.items before mid after taken.cause
     (write-keeps subject.State s.command s.machine.time g.F.Files.tells (text_of (state_in c.in-Ok.saved)) w c.written_answer.result s.notes.items
-    c.note_writing.new.notes.items mid after c.written_answer.ensures write.shape tt (record { counts = write.counts; openings = write.openings; ids = write.ids })
+    c.note_writing.new.notes.items mid after c.written_answer.ensures write.shape tt (record { counts = write.counts; openings = write.openings; ids = write.ids; one = write.one })
     (c.note_writing.ensures.notes ∙ ap (λ (t : Stamp). s.notes.items ++ write_notes subject.State t w) stamped))))
 
 pub returns-in-Err-clause-told : goal.returns-in-Err-clause-told
@@ -109,7 +109,7 @@ returns-in-Err-clause-keeps g c =
     let stamped = c.stamp_of-stamp.ensures ∙ ap stamp_in (sym c.session.view_is) in
     let time = time-kept _ f s.machine c.take_state.new.machine _ taken.machine taken.no_memory in
     rw (← c.session.view_is)
-    (subst (λ (t : ℕ). Keeps s.command t g.F.Files.tells (Err c.fault_of_save.result) s.notes.items c.note_saving.new.notes.items before mid) (sym time)
+    (subst (λ (t : ℕ). KeepsOwn s.command t g.F.Files.tells (Err c.fault_of_save.result) s.notes.items c.note_saving.new.notes.items before mid) (sym time)
     (refused-keeps s.command s.machine.time g.F.Files.tells f (Err c.fault_of_save.result) s.machine.slots s.notes.items c.note_saving.new.notes.items before mid taken.cause
     (c.note_saving.ensures.notes ∙ ap (λ (t : Stamp). s.notes.items ++ save_notes t f) stamped) (ap Err c.fault_of_save.ensures)))
 

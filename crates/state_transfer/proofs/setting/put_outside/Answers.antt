@@ -1,4 +1,4 @@
-use Rattle.std.proofs.Common.{◌≡◌, inl, ap, sym, subst, ◌∙◌, List, Some}
+use Rattle.std.proofs.Common.{◌≡◌, inl, ap, sym, subst, ◌∙◌, List, Some, Ok, Err, length}
 use Rattle.std.proofs.lemmas.Result.{err_from_is_err_and}
 use Rattle.std.specs.List.{AllByRecursion}
 use Rattle.unit_files.specs.Attachments.{held_at}
@@ -12,10 +12,12 @@ use Rattle.saved_session.specs.Order.{place_of}
 use Rattle.saved_files.specs.Restoring.{files_in, IsOfThese}
 use Rattle.saved_files.specs.RestoringOne.{CanAttach, AreApart}
 use Rattle.saved_files.proofs.GivingBackLemmas.{given-back}
-use Rattle.state_transfer.proofs.PortLemmas.{these-of-session, no-listening, port-of-session, no-port, port-compared, port-cause, port-counts}
+use Rattle.state_transfer.proofs.PortLemmas.{these-of-session, no-listening, port-of-session, no-port, port-compared, port-cause, port-counts, port-unopened}
 use Rattle.saved_files.proofs.RestoreCounts.{new-counts-behind-all, session-cause}
 use Rattle.saved_files.proofs.Together.{all-free, only-base}
 use Rattle.saved_files.proofs.ValidFiles.{each-can, all-apart}
+use Rattle.saved_files.specs.RestoreCauses.{OpensEach}
+use Rattle.saved_files.proofs.RestoreOpenings.{opens-named}
 use Rattle.saved_files.proofs.ClosingOnce.{port-closed}
 use Rattle.state_transfer.proofs.setting.put_outside.Goals as goal
 
@@ -137,3 +139,28 @@ returns-in-Err-clause-once g c =
     port-closed c.in-Err.fault (state c.args.files.now) (state c.attach_all.new.files) (state c.give_back_all.new.files)
     (port-counts c.in-Err.fault c.in-Err.ensures.fault) c.in_ok-attach_all.ensures.cause.0
     c.give_back_all.ensures.once.files
+
+pub returns-in_err-attach_all-clause-exact : goal.returns-in_err-attach_all-clause-exact
+returns-in_err-attach_all-clause-exact g c =
+    let state = g.F.Files.state in
+    let p = err_from_is_err_and c.from_residual.result c.from_residual.ensures.1 in
+    rw (p.1, p.2) (subst (λ (l : List SavedFile). OpensEach g.F.Files.tells (length (files_in l))
+    (Err c.in_err-attach_all.field-0.0) (state c.args.files.now) (state c.attach_all.new.files)) c.deref.ensures.value
+    c.in_err-attach_all.ensures.exact)
+
+pub returns-in-Ok-clause-exact : goal.returns-in-Ok-clause-exact
+returns-in-Ok-clause-exact g c =
+    let state = g.F.Files.state in
+    subst (λ (l : List SavedFile). OpensEach g.F.Files.tells (length (files_in l)) (Ok tt) (state c.args.files.now)
+    (state c.attach_all.new.files)) c.deref.ensures.value c.in_ok-attach_all.ensures.exact
+
+pub returns-in-Err-clause-exact : goal.returns-in-Err-clause-exact
+returns-in-Err-clause-exact g c =
+    let state = g.F.Files.state in
+    let back = c.give_back_all.ensures.counts in
+    opens-named g.F.Files.tells (length (state_in c.args.saved.now).files) c.in-Err.fault (state c.args.files.now)
+    (state c.attach_all.new.files) (state c.give_back_all.new.files)
+    (port-unopened g.F.Files.tells c.in-Err.fault c.in-Err.ensures.fault)
+    (subst (λ (l : List SavedFile). OpensEach g.F.Files.tells (length (files_in l)) (Ok tt) (state c.args.files.now)
+    (state c.attach_all.new.files)) c.deref.ensures.value c.in_ok-attach_all.ensures.exact)
+    back.openings back.ids
