@@ -14,6 +14,7 @@ ghost use Rattle.program_start.specs.WordFiles.{AddsClosings, IsUnrefused, AddsN
 ghost use Rattle.program_start.specs.WordFiles.{AreWordClosings};
 ghost use Rattle.program_start.specs.WordFiles.{NamesTold};
 ghost use Rattle.program_start.specs.Unread.{WordCause, AnswersRead, TakesCause, BeginsCause, keys_ids};
+ghost use Rattle.program_start.specs.WordCounts.{files_named, CountsWordFiles};
 ghost use Rattle.program_start.specs.declared.word_files.Refusal.TheVariants.{OutOfMemory};
 ghost use Rattle.whole_files.specs.declared.whole.WholeFault.TheVariants as whole_faults;
 ghost use Rattle.program_start.specs.Workload.{first_text};
@@ -72,6 +73,8 @@ pub fn begin<F: Files>(
     ensures whose { AreOwn no_files no_files [] notes.new.items (F.state files.old) (F.state files.new) }
     ensures closings { result ≡ Err OutOfMemory → AreWordClosings (notes_said notes.new.items) }
     ensures unread { BeginsCause F.tells (texts_of words.now) options result notes.new.items (F.state files.old)
+        (F.state files.new) }
+    ensures exact { CountsWordFiles F.tells (files_named options) result [] notes.new.items (F.state files.old)
         (F.state files.new) }
 {
     let keys = take_keys(alloc, words, options, files, notes)?;
