@@ -21,8 +21,8 @@ is_unopened result = false
 
 -- So many files that the words name were to be read. The count of openings has risen by just as many as the notes of openings
 -- are, and by one more where a file is missing of files that tell nothing: no note names that. It is so only where the
--- program is refused for a file that was not read, and nothing failed but closings. Each file gives one id at most, and
--- where the program is not refused, just one.
+-- program is refused for a file that was not read, and nothing failed but closings. Each file gives one id at most, and just
+-- one where the program is not refused.
 pub record CountsWordFiles {T : Type 0} (tells : Bool) (files : ℕ) (result : Result T Refusal) (kept kept' : List FaultNote) (old new : FileState) : Type 0 where
   pub more : List FaultNote
   pub added : kept' ≡ kept ++ more
