@@ -1,5 +1,5 @@
 -- How many openings of the files that the words name failed, and how many ids these files were given.
-use Rattle.std.proofs.Common.{◌≡◌, ℕ, ◌+◌, ◌<◌, ◌≤◌, ◌&&◌, not, Bool, List, [], ◌++◌, refl, ap, sym, ◌∙◌, subst, arith, append-nil, Option, Some, None, is_some, Result, Ok, Err, IfOk}
+use Rattle.std.proofs.Common.{◌≡◌, ℕ, ◌+◌, ◌<◌, ◌≤◌, ◌&&◌, not, Bool, List, [], refl, ap, sym, ◌∙◌, subst, arith, append-nil, Option, Some, None, is_some, Result, Ok, Err, IfOk}
 use Rattle.std.specs.Global.{Vec}
 use Rattle.file_traits.specs.State.{FileState}
 use Rattle.file_commands.specs.declared.note.FaultNote.{FaultNote}
