@@ -8,7 +8,7 @@ abbrev pub OfSomeEnding : (Option MachineState → List FaultNote → Type 0) �
 OfSomeEnding Said = (machine : Option MachineState) × (faults : List FaultNote) × Said machine faults
 
 -- all that `simulate` promises of them, by the names of its clauses
-pub record Promised (Outcome Memory Complete Resumed Ports Unopened Measured Notes Exact Whose Unwritten Machine Files Unread : Type 0) : Type 0 where
+pub record Promised (Outcome Memory Complete Resumed Ports Unopened Measured Notes Exact Openings Whose Unwritten Machine Files Unread : Type 0) : Type 0 where
   pub outcome : Outcome
   pub memory : Memory
   pub complete : Complete
@@ -18,6 +18,7 @@ pub record Promised (Outcome Memory Complete Resumed Ports Unopened Measured Not
   pub measured : Measured
   pub notes : Notes
   pub exact : Exact
+  pub openings : Openings
   pub whose : Whose
   pub unwritten : Unwritten
   pub machine : Machine

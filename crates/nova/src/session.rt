@@ -12,7 +12,7 @@ ghost use Rattle.command_session.specs.Live.{beyond};
 ghost use Rattle.command_words.specs.Standard.{IsStandard};
 ghost use Rattle.command_words.specs.Words.{options_of, texts_of};
 ghost use Rattle.nova_top.specs.Ends.{IsOutcome, IsCutShort, StatusCause, MachineThere, IsComplete, FilesAtEnd};
-ghost use Rattle.nova_top.specs.Ends.{LinesAtEnd, NoneFailed, KeptUnwritten, HasWorkload, InputTells};
+ghost use Rattle.nova_top.specs.Ends.{LinesAtEnd, NoneFailed, KeptUnwritten, OpeningsAtEnd, HasWorkload, InputTells};
 ghost use Rattle.program_start.specs.Unread.{IsUnopened, AreMeasured, HasNoKeys};
 ghost use Rattle.nova_top.specs.Resumption.{ResumesSaved};
 ghost use Rattle.nova_top.specs.Used.{ProgramTold};
@@ -76,6 +76,8 @@ pub fn session<U: Unit, C: Source, S: Sink, F: Files, L: Lines>(
         (F.state files.new))
         (AreCounted faults (F.state files.old) (F.state files.new))
         (AreExact (is_some machine) faults (F.state files.old) (F.state files.new))
+        (OpeningsAtEnd F.tells (texts_of words.now) (exit_status result) machine faults (F.state files.old)
+        (F.state files.new))
         (AllByRecursion (IsOwnNote no_files (F.state files.old) (F.state files.new)) faults)
         (exit_status result ≡ 107 → KeptUnwritten machine faults (F.state files.old) (F.state files.new))
         (MachineThere (texts_of words.now) (exit_status result) machine)

@@ -6,3 +6,4 @@ pub mod ProgramLemmas
 pub mod UsedLemmas
 pub mod ValidProgram
 pub mod ResumptionLemmas
+pub mod CountLemmas

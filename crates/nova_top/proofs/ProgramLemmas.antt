@@ -512,8 +512,8 @@ no-notes (n ∷ items) old new counted none = absurd (by-file n.file refl)
         let one : one_if (is_of id.0 n.file) ≡ 1 = ap (λ (f : Option FileId). one_if (is_of id.0 f)) is ∙ ap one_if (eq-eqb id.0 id.0 refl) in
         none.0 id.0 (rose-some (noted id.0 (n ∷ items)) (old.faults id.0) (new.faults id.0) (omega (arith, one)) (counted.files id.0))
 
-pub kept-counted : (notes items : List FaultNote) (old mid new : FileState) → AddsNoted [] notes old mid → AreKept notes items mid new → AreCounted items old new
-kept-counted notes items old mid new first second =
+pub kept-counted : (most given_most : ℕ) (notes items : List FaultNote) (old mid new : FileState) → AddsNoted [] notes old mid → AreKept most given_most notes items mid new → AreCounted items old new
+kept-counted most given_most notes items old mid new first second =
     let all = counted-both first.more second.kept old mid new first.counted second.counted in
     subst (λ (l : List FaultNote). AreCounted l old new) (sym (second.added ∙ ap (λ (l : List FaultNote). l ++ second.kept) first.added)) all
 
@@ -523,9 +523,10 @@ refused-counted before notes items old new none same kept =
     subst (λ (l : List FaultNote). AreCounted l old new) (sym (same ∙ kept.added ∙ ap (λ (l : List FaultNote). l ++ kept.more) none)) kept.counted
 
 -- and each call that failed has its own, but for the closing of a file that was given back
-pub kept-exact : (notes items : List FaultNote) (machine : Option MachineState) (old mid new : FileState) → AddsNoted [] notes old mid → AreKept notes items mid new → IsTrue (is_some machine)
+pub kept-exact : (most given_most : ℕ) (notes items : List FaultNote) (machine : Option MachineState) (old mid new : FileState) → AddsNoted [] notes old mid
+    → AreKept most given_most notes items mid new → IsTrue (is_some machine)
     → AreExact (is_some machine) items old new
-kept-exact notes items machine old mid new first second there =
+kept-exact most given_most notes items machine old mid new first second there =
     let all = exact-both true first.more second.kept old mid new (exact-kept true first.more old mid first.exact) second.exact in
     subst (λ (b : Bool). AreExact b items old new) (sym there)
     (subst (λ (l : List FaultNote). AreExact true l old new) (sym (second.added ∙ ap (λ (l : List FaultNote). l ++ second.kept) first.added)) all)

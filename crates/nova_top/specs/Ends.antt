@@ -1,6 +1,6 @@
 -- What the program comes to, for a console that took so many bytes, an input that let so many reads through, and the calls
 -- on files that failed.
-use Rattle.std.specs.Prelude.{◌≡◌, ◌≢◌, ◌⊎◌, ℕ, ◌+◌, ◌≤◌, Bool, IsTrue, List, [], ◌++◌, length, drop, map, Option, Some, None, IsSome, option_map}
+use Rattle.std.specs.Prelude.{◌≡◌, ◌≢◌, ◌⊎◌, ℕ, ◌+◌, ◌≤◌, ◌&&◌, ◌||◌, not, Bool, true, false, IsTrue, List, [], ◌++◌, length, drop, map, Option, Some, None, IsSome, is_some, option_map}
 use Rattle.fault_counts.specs.Faults.{raised, Rose}
 use Rattle.observations.specs.Observations.{Trace, text_of, reads_of, sent_of}
 use Rattle.observations.specs.Cut.{ends}
@@ -13,20 +13,25 @@ use Rattle.telnet_lines.specs.Joined.{seen_line}
 use Rattle.unit_files.specs.Open.{AllOpen, Around}
 use Rattle.file_commands.specs.declared.note.FaultNote.{FaultNote}
 use Rattle.file_commands.specs.Notes.{Note}
+use Rattle.file_commands.specs.Counts.{one_if, openings_noted}
 use Rattle.file_commands.specs.AllUnits.{IsUnwritten}
+use Rattle.whole_files.specs.Claims.{raised_by}
 use Rattle.expect_actions.specs.KeysFile.{Key}
 use Rattle.nova_machine.specs.Machine.{MachineState}
 use Rattle.nova_machine.specs.Seen.{erased}
 use Rattle.nova_machine.specs.Comes.{output}
 use Rattle.nova_machine.specs.LineChanges.{HasConnection, heard_with}
 use Rattle.command_session.specs.Live.{Live, Beyond}
+use Rattle.command_session.specs.Doing.{AllClosings}
 use Rattle.command_session.specs.LinesLeft.{HasPort, AreListened}
+use Rattle.scp_script.specs.Loop.{missed_for, given_for}
 use Rattle.scp_script.specs.Perform.{RunsShort}
 use Rattle.command_words.specs.declared.options.Options.{Options}
 use Rattle.command_words.specs.Words.{options_of}
 use Rattle.nova_top.specs.Outside.{trace_of, Outside, Left, left_by, opening, outcome, sent_by, whole_trace}
 use Rattle.program_start.specs.Start.{Begins, start_of}
 use Rattle.program_start.specs.WordFiles.{AreWordClosings}
+use Rattle.program_start.specs.WordCounts.{files_named}
 
 -- a machine without the numbers of open files, where there is one
 abbrev pub machine_left : Option MachineState → Option MachineState
@@ -150,6 +155,37 @@ pub record MachineThere (words : List (List ℕ)) (status : ℕ) (machine : Opti
 abbrev pub KeptUnwritten : Option MachineState → List FaultNote → FileState → FileState → Type 0
 KeptUnwritten None notes old new = ⊥
 KeptUnwritten (Some m) notes old new = IsUnwritten m.slots notes old new
+
+-- How many openings may have failed that have no note: none where files tell. Else, without a machine, that of a file that
+-- the words name; and where there is a machine, two for each unit that they give to pay for texts. None with words outside
+-- their grammar.
+abbrev pub missed_at_most : Bool → Bool → Option Options → ℕ
+missed_at_most tells machine None = 0
+missed_at_most tells false (Some options) = one_if ((is_some options.keys || is_some options.script) && not tells)
+missed_at_most tells true (Some options) = missed_for tells options.budget
+
+-- how many ids are given at most: one for each file that the words name, and those that texts give
+abbrev pub given_at_most : Bool → Option Options → ℕ
+given_at_most machine None = 0
+given_at_most false (Some options) = files_named options
+given_at_most true (Some options) = files_named options + given_for options.budget
+
+-- and at least: where there is a machine, all files of the words were opened
+abbrev pub given_at_least : Bool → Option Options → ℕ
+given_at_least machine None = 0
+given_at_least false (Some options) = 0
+given_at_least true (Some options) = files_named options
+
+-- The count of openings has risen by just as many as the notes of openings are, and by so many that have no note at most.
+-- Without a machine that is a file of the words which was not read, and nothing else failed but closings. And no more ids were
+-- given than these.
+pub record OpeningsAtEnd (tells : Bool) (words : List (List ℕ)) (status : ℕ) (machine : Option MachineState) (notes : List FaultNote) (old new : FileState) : Type 0 where
+  pub missed : ℕ
+  pub few : missed ≤ missed_at_most tells (is_some machine) (options_of words)
+  pub unread : machine ≡ None → 1 ≤ missed → ((status ≡ 101) ⊎ (status ≡ 102)) × AllClosings notes
+  pub openings : new.open_faults ≡ raised_by (missed + openings_noted notes) old.open_faults
+  pub given : new.given ≤ old.given + given_at_most (is_some machine) (options_of words)
+  pub opened : old.given + given_at_least (is_some machine) (options_of words) ≤ new.given
 
 -- The files of the machine's units are open, and beside them those that were open before, and no others; without a machine
 -- these alone.

@@ -15,13 +15,13 @@ ghost use Rattle.nova_machine.specs.Seen.{seen, beside};
 ghost use Rattle.nova_machine.specs.Comes.{output as heard_output};
 ghost use Rattle.state_transfer.specs.SavedValid.{AreStandard};
 ghost use Rattle.command_session.specs.Live.{beyond};
-ghost use Rattle.scp_script.specs.Loop.{FinishCause, AreKept};
+ghost use Rattle.scp_script.specs.Loop.{FinishCause, AreKeptFor};
 ghost use Rattle.scp_script.specs.Perform.{beginning, Performed};
 ghost use Rattle.scp_script.specs.Used.{CourseTold};
 ghost use Rattle.command_words.specs.Standard.{IsStandard};
 ghost use Rattle.command_words.specs.Words.{texts_of};
 ghost use Rattle.program_start.specs.Start.{usage_text};
-ghost use Rattle.nova_top.specs.Ends.{IsOutcome, IsCutShort, StatusCause, MachineThere, IsComplete, FilesAtEnd, KeptUnwritten, LinesAtEnd, NoneFailed, HasWorkload, InputTells};
+ghost use Rattle.nova_top.specs.Ends.{IsOutcome, IsCutShort, StatusCause, MachineThere, IsComplete, FilesAtEnd, KeptUnwritten, OpeningsAtEnd, LinesAtEnd, NoneFailed, HasWorkload, InputTells};
 ghost use Rattle.program_start.specs.Unread.{IsUnopened, AreMeasured, HasNoKeys};
 ghost use Rattle.program_start.specs.WordFiles.{IsRefused, RefusedCause, RefusalCause, denial_of, IsDenied, DeniedCause};
 ghost use Rattle.nova_top.specs.Program.{SessionEnds, as_file};
@@ -50,7 +50,7 @@ pub struct Ending<U: Unit> {
     /// The machine as it was left, where there was one. Files that are still attached to it are still open.
     pub machine: Option<Machine<U>>,
     /// The calls on files that failed, in order, but for the closings of files that a refused ATTACH or RESTORE has
-    /// opened itself.
+    /// opened itself, and for the openings of files that are missing.
     pub faults: Vec<FaultNote>,
 }
 
@@ -122,6 +122,8 @@ pub fn simulate<U: Unit, C: Source, S: Sink, F: Files, L: Lines>(
         (F.state files.old) (F.state files.new) }
     ensures notes { AreCounted result.faults.items (F.state files.old) (F.state files.new) }
     ensures exact { AreExact (is_some result.machine) result.faults.items (F.state files.old) (F.state files.new) }
+    ensures openings { OpeningsAtEnd F.tells (texts_of words.now) result.status result.machine result.faults.items
+        (F.state files.old) (F.state files.new) }
     ensures whose { AllByRecursion (IsOwnNote no_files (F.state files.old) (F.state files.new)) result.faults.items }
     ensures unwritten { result.status ≡ 107
         → KeptUnwritten result.machine result.faults.items (F.state files.old) (F.state files.new) }
@@ -277,7 +279,8 @@ fn run_session<U: Unit, C: Source, S: Sink, F: Files, L: Lines>(
         (λ finish. FinishCause finish (S.fault_count output.old) (S.fault_count output.new) (C.fault_count input.old)
         (C.fault_count input.new)) }
     ensures ports { LinesAtEnd result.machine (L.state lines.old) (L.state lines.new) }
-    ensures keeps { AreKept session.notes result.faults.items (F.state files.old) (F.state files.new) }
+    ensures keeps { AreKeptFor F.tells opening.now.budget session.notes result.faults.items (F.state files.old)
+        (F.state files.new) }
     ensures whose { (slots : List (Option Held))
         × AreOwn session.machine.slots slots session.notes result.faults.items (F.state files.old) (F.state files.new) }
     ensures unwritten { result.status ≡ 107

@@ -6,6 +6,7 @@ pub mod WordLemmas
 pub mod SessionLemmas
 pub mod LineLemmas
 pub mod NoteLemmas
+pub mod KeptLemmas
 pub mod WholeLemmas
 pub mod ActionLemmas
 pub mod UsedLemmas

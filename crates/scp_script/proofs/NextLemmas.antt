@@ -16,11 +16,13 @@ use Rattle.scp_parser.specs.declared.command.Shown.TheVariants as shown
 use Rattle.scp_parser.specs.Command.{Request}
 use Rattle.scp_parser.specs.Command as request
 use Rattle.scp_examine.specs.declared.fault.ExamineFault.{ExamineFault}
+use Rattle.scp_examine.specs.declared.fault.ExamineFault.TheVariants as list
+use Rattle.plain_commands.specs.ListFaults.{list_fault}
 use Rattle.scp_examine.specs.Effect.{examine_fault, fault_of_deposit, tested}
 use Rattle.command_session.specs.declared.do_file.DoFile.{DoFile}
 use Rattle.command_session.specs.declared.next.Next.{Next}
 use Rattle.command_session.specs.declared.next.Next.TheVariants.{Go, Ran, Do, Goto, Exit}
-use Rattle.command_session.specs.declared.fault.CommandFault.TheVariants.{NoSuchName}
+use Rattle.command_session.specs.declared.fault.CommandFault.TheVariants.{NoSuchName, NoFile}
 use Rattle.command_session.specs.Live.{Live}
 use Rattle.command_session.specs.Reply.{Answer, Reply, bare_answer}
 use Rattle.command_session.specs.Nature.{nature}
@@ -44,10 +46,11 @@ use Rattle.session_texts.specs.Scripts.{Script, most_scripts}
 use Rattle.scp_script.specs.Loop.{FitsIn, HasRoom}
 use Rattle.scp_script.specs.Spending.{AsksExit, NextOf}
 
--- an answer that begins no script and ends no session
+-- an answer that begins no script, ends no session, and speaks of no file that is missing
 abbrev pub IsPlain : Answer → Type 0
 IsPlain (Ok (Do file)) = ⊥
 IsPlain (Ok (Exit status)) = ⊥
+IsPlain (Err NoFile) = ⊥
 IsPlain answer = Unit {0}
 
 none-if : (b : Bool) (x y : Reply) → IsPlain x.answer → IsPlain y.answer → IsPlain (if b then x else y).answer
@@ -58,8 +61,14 @@ reset-none : (live : Live) → IsPlain (reset_reply live).answer
 unfolding reset_reply
 reset-none live = tt
 
+list-none : (fault : ExamineFault) → IsPlain (Err (list_fault fault))
+list-none list.NoSuchName = tt
+list-none list.OutOfRange = tt
+list-none list.ReadOnlyName = tt
+list-none list.Console = tt
+
 examine_after-none : (fault : Option ExamineFault) (live : Live) (l : Listing) → IsPlain (examine_after fault live l).answer
-examine_after-none (Some fault) live l = tt
+examine_after-none (Some fault) live l = list-none fault
 examine_after-none None live l = tt
 
 examine-none : (live : Live) (l : Listing) → IsPlain (examine_reply live l).answer
@@ -67,7 +76,7 @@ unfolding examine_reply
 examine-none live l = none-if (lacks_device live.machine l.device) _ _ tt (examine_after-none (examine_fault live.machine l) live l)
 
 deposit_after-none : (fault : Option ExamineFault) (live : Live) (l : Listing) (value : ℕ) → IsPlain (deposit_after fault live l value).answer
-deposit_after-none (Some fault) live l value = tt
+deposit_after-none (Some fault) live l value = list-none fault
 deposit_after-none None live l value = tt
 
 deposit-none : (live : Live) (l : Listing) (value : ℕ) → IsPlain (deposit_reply live l value).answer
@@ -147,7 +156,7 @@ tested-none : (lacks : Bool) (r : Result Bool ExamineFault) → IsPlain (if lack
 tested-none true r = tt
 tested-none false (Ok true) = tt
 tested-none false (Ok false) = tt
-tested-none false (Err fault) = tt
+tested-none false (Err fault) = list-none fault
 
 assert-none : (live : Live) (test : Test) → IsPlain (assert_reply live test).answer
 unfolding assert_reply

@@ -1,5 +1,5 @@
 -- All lines of a session, one behind another.
-use Rattle.std.proofs.Common.{Option, ◌≡◌, inl, ℕ, zero, suc, ◌+◌, Bool, List, [], ◌∷◌, ◌++◌, length, drop, ◌&&◌, true, refl, ap, sym, ◌∙◌, subst, arith, append_assoc, append-nil, zero-add, length-append}
+use Rattle.std.proofs.Common.{Option, ◌≡◌, inl, ℕ, zero, suc, ◌+◌, Bool, List, [], ◌∷◌, ◌++◌, length, drop, refl, ap, sym, ◌∙◌, subst, arith, append_assoc, append-nil, zero-add, length-append}
 use Rattle.std.proofs.lemmas.List.{drop-drop}
 use Rattle.fault_counts.specs.Faults.{raised}
 use Rattle.file_traits.specs.State.{FileState}
@@ -16,11 +16,8 @@ use Rattle.file_commands.specs.declared.note.FaultNote.{FaultNote}
 use Rattle.file_commands.specs.Notes.{CommandNote, Note}
 use Rattle.expect_actions.specs.Watch.{WatchState}
 use Rattle.command_session.specs.Live.{Live}
-use Rattle.command_session.specs.Reply.{Answer}
-use Rattle.command_session.specs.Doing.{ComeBehind, CommandOpens, attaches, gives_back, Keeps, KeepsBy}
+use Rattle.command_session.specs.Doing.{ComeBehind}
 use Rattle.command_session.proofs.RemainLemmas.{remains}
-use Rattle.file_commands.proofs.Adding.{counted-both, counted-none}
-use Rattle.file_commands.proofs.Exact.{exact-both, exact-every, exact-kept, exact-none}
 use Rattle.scp_script.specs.declared.progress.Progress.TheVariants.{GoesOn, IsOver}
 use Rattle.scp_script.specs.declared.progress.Finish.{Finish}
 use Rattle.scp_script.specs.declared.progress.Finish.TheVariants.{Exit, EndOfInput, FlushFailed, Commands, Console, Input, OutOfMemory}
@@ -245,30 +242,6 @@ never-begun start before notes none = record {
   };
 }
 
--- the notes that were kept are counted
-pub kept-none : (notes : List FaultNote) (s : FileState) → AreKept notes notes s s
-kept-none notes s = record { kept = []; added = sym (append-nil notes); counted = counted-none s; exact = exact-none true s }
-
--- so are those of a command
-pub kept-by : (restores : Bool) (opens : CommandOpens) (number before now : ℕ) (tells : Bool) (answer : Answer) (notes notes' : List FaultNote) (old new : FileState)
-    → KeepsBy restores opens number before now tells answer notes notes' old new → AreKept notes notes' old new
-kept-by restores opens number before now tells answer notes notes' old new k =
-    record { kept = k.kept; added = k.added; counted = k.counted; exact = exact-every (attaches opens && gives_back answer) k.kept old new k.exact }
-
--- and of the end
-pub kept-last : (number now : ℕ) (tells : Bool) (answer : Answer) (notes notes' : List FaultNote) (old new : FileState) → Keeps number now tells answer notes notes' old new
-    → AreKept notes notes' old new
-kept-last number now tells answer notes notes' old new k =
-    record { kept = k.kept; added = k.added; counted = k.counted; exact = exact-kept true k.kept old new k.exact }
-
-pub kept-both : (notes notes' notes'' : List FaultNote) (old mid new : FileState) → AreKept notes notes' old mid → AreKept notes' notes'' mid new → AreKept notes notes'' old new
-kept-both notes notes' notes'' old mid new a b = record {
-  kept = a.kept ++ b.kept;
-  added = b.added ∙ ap (λ l. l ++ b.kept) a.added ∙ append_assoc notes a.kept b.kept;
-  counted = counted-both a.kept b.kept old mid new a.counted b.counted;
-  exact = exact-both true a.kept b.kept old mid new a.exact b.exact;
-}
-
 pub causes-behind : (finish : Finish) (sink sink_mid sink_now source source_mid source_now : ℕ) → sink_mid ≡ sink → source_mid ≡ source → FinishCause finish sink_mid sink_now source_mid source_now
     → FinishCause finish sink sink_now source source_now
 causes-behind finish sink sink_mid sink_now source source_mid source_now a b c = record {
@@ -280,12 +253,12 @@ causes-behind finish sink sink_mid sink_now source source_mid source_now a b c =
 }
 
 -- a unit has kept its file since an earlier time, from which no count has fallen
-pub kept-since : (finish : Finish) (slots : List (Option Held)) (notes notes' notes'' : List FaultNote) (old mid new : FileState) → AreKept notes notes' old mid → KeptCause finish slots notes'' mid new
-    → KeptCause finish slots notes'' old new
-kept-since FlushFailed slots notes notes' notes'' old mid new a k = unwritten-since slots notes'' old mid new (λ file. (a.counted.files file).0) k
-kept-since (Exit status) slots notes notes' notes'' old mid new a k = tt
-kept-since EndOfInput slots notes notes' notes'' old mid new a k = tt
-kept-since Commands slots notes notes' notes'' old mid new a k = tt
-kept-since Console slots notes notes' notes'' old mid new a k = tt
-kept-since Input slots notes notes' notes'' old mid new a k = tt
-kept-since OutOfMemory slots notes notes' notes'' old mid new a k = tt
+pub kept-since : (finish : Finish) (slots : List (Option Held)) (most given_most : ℕ) (notes notes' notes'' : List FaultNote) (old mid new : FileState) → AreKept most given_most notes notes' old mid
+    → KeptCause finish slots notes'' mid new → KeptCause finish slots notes'' old new
+kept-since FlushFailed slots most given_most notes notes' notes'' old mid new a k = unwritten-since slots notes'' old mid new (λ file. (a.counted.files file).0) k
+kept-since (Exit status) slots most given_most notes notes' notes'' old mid new a k = tt
+kept-since EndOfInput slots most given_most notes notes' notes'' old mid new a k = tt
+kept-since Commands slots most given_most notes notes' notes'' old mid new a k = tt
+kept-since Console slots most given_most notes notes' notes'' old mid new a k = tt
+kept-since Input slots most given_most notes notes' notes'' old mid new a k = tt
+kept-since OutOfMemory slots most given_most notes notes' notes'' old mid new a k = tt

@@ -1,6 +1,6 @@
 -- What the calls of the loop over texts come to, for a console that had and has these bytes, callers of lines that had and
 -- have heard these, and an input that let so many reads through.
-use Rattle.std.specs.Prelude.{◌≡◌, ◌≢◌, ◌⊎◌, ℕ, ◌+◌, ◌^◌, ◌<◌, ◌≤◌, Bool, IsTrue, List, [], ◌++◌, length, Option, Some, None, Ok, true}
+use Rattle.std.specs.Prelude.{◌≡◌, ◌≢◌, ◌⊎◌, ℕ, ◌+◌, ◌*◌, ◌^◌, ◌<◌, ◌≤◌, Bool, IsTrue, List, [], ◌++◌, length, Option, Some, None, Ok, Err, true, false}
 use Rattle.std.specs.List.{AllByRecursion}
 use Rattle.fault_counts.specs.Faults.{raised}
 use Rattle.file_traits.specs.declared.files.FileCall.TheVariants.{Closing}
@@ -18,11 +18,12 @@ use Rattle.command_session.specs.declared.next.Next.TheVariants as next
 use Rattle.command_session.specs.declared.fault.CommandFault.{CommandFault}
 use Rattle.command_session.specs.declared.fault.CommandFault.TheVariants as fault
 use Rattle.file_traits.specs.State.{FileState}
-use Rattle.unit_files.specs.Attachments.{Held}
+use Rattle.unit_files.specs.Attachments.{Held, file_units}
 use Rattle.file_commands.specs.declared.note.Subject.{Subject}
 use Rattle.file_commands.specs.declared.note.FaultNote.{FaultNote}
 use Rattle.file_commands.specs.Notes.{CommandNote, Note, numbered, Follow}
-use Rattle.file_commands.specs.Counts.{AreCounted, AreExact}
+use Rattle.whole_files.specs.Claims.{raised_by}
+use Rattle.file_commands.specs.Counts.{openings_noted, AreCounted, AreExact}
 use Rattle.command_session.specs.Live.{Live, Standing, CommandState, Beyond, live_in}
 use Rattle.nova_machine.specs.Comes.{Output}
 use Rattle.nova_machine.specs.LineChanges.{heard_with}
@@ -31,7 +32,7 @@ use Rattle.command_session.specs.FaultText.{fault_text}
 use Rattle.command_session.specs.Asked.{Asked, asked}
 use Rattle.command_session.specs.Remains.{Remains, flushes_of, reader_of}
 use Rattle.command_session.specs.DiskFile.{disk_alone}
-use Rattle.command_session.specs.Doing.{IsSaid, IsBrokenOff, Does, ComeBehind}
+use Rattle.command_session.specs.Doing.{IsSaid, IsBrokenOff, Does, ComeBehind, CommandOpens, OpensNone, opens_of, most_unnoted, most_opened}
 use Rattle.scp_script.specs.declared.progress.CommandLoop.{CommandLoop}
 use Rattle.scp_script.specs.declared.progress.Finish.{Finish}
 use Rattle.scp_script.specs.declared.progress.Finish.TheVariants.{Exit, EndOfInput, FlushFailed, Commands, Console, Input, OutOfMemory}
@@ -43,7 +44,7 @@ use Rattle.session_texts.specs.Scripts.{Script, most_scripts, settled}
 use Rattle.expect_actions.specs.Watch.{WatchState}
 use Rattle.session_texts.specs.Actions.{Texts, coming, texts_behind}
 use Rattle.scp_script.specs.Session as ends
-use Rattle.scp_script.specs.Session.{State, Session, SessionEnd, ExitDone, AllDone, InputEnded, BudgetSpent, NothingSaid, going_on, rested, asking, with_complaint, Upcoming, Ends, Comes, upcoming, text_reply, flushes_next, step, course, trace}
+use Rattle.scp_script.specs.Session.{State, Session, SessionEnd, ExitDone, AllDone, InputEnded, BudgetSpent, NothingSaid, going_on, rested, asking, with_complaint, Upcoming, Ends, Comes, upcoming, text_reply, flushes_next, step, course, trace, spent_more}
 
 -- the session that the loop stands in, to which these failing calls are still to come
 abbrev pub session_of : CommandState → Beyond → CommandLoop → List ℕ → List Note → Session
@@ -256,18 +257,62 @@ pub record Stepped (old : List Note → Session) (p : Progress) (new : List Note
   pub first : (more : List Note) → MayCome p (new []).spent (new []).live more → MayFollow (old []).spent (old []).live (own ++ more)
   pub goes : (more : List Note) → MayCome p (new []).spent (new []).live more → Progresses (old (own ++ more)) p (new more) before after
 
+-- what a text opens: one that is no command opens nothing
+abbrev pub opens_asked : Asked → CommandOpens
+opens_asked (Ok request) = opens_of request
+opens_asked (Err fault) = OpensNone
+
+-- How many openings of a text may have failed that have no note: none where files tell or it opens nothing; and else one,
+-- where its answer is that a file is missing, and those few that its answer does not name either.
+abbrev pub most_missed : Bool → CommandOpens → ℕ
+most_missed true opens = 0
+most_missed false OpensNone = 0
+most_missed false opens = 1 + most_unnoted opens false
+
+-- The same of so many units, each of which pays for one text at most: two of an ATTACH that looks for its file before it
+-- makes it.
+abbrev pub missed_for : Bool → ℕ → ℕ
+missed_for true units = 0
+missed_for false units = 2 * units
+
+-- how many ids the texts give at most that so many units pay for: a RESTORE gives one for its own file, and one for each
+-- unit that can have a file
+abbrev pub given_for : ℕ → ℕ
+given_for units = (1 + file_units) * units
+
 -- The notes that were kept are those of calls that failed: for each file there are just as many as its count rose, or one
--- less, and that only where files may be given back, for one that was opened in between, whose closing then has none; and of
--- openings there are at most as many.
-pub record KeptAs (gives_back : Bool) (notes notes' : List FaultNote) (old new : FileState) : Type 0 where
+-- less, and that only where files may be given back, for one that was opened in between, whose closing then has none. The
+-- count of openings has risen by just as many as the notes of openings are, and by so many that have none at most; and no
+-- more ids than these were given.
+pub record KeptAs (gives_back : Bool) (most given_most : ℕ) (notes notes' : List FaultNote) (old new : FileState) : Type 0 where
   pub kept : List FaultNote
   pub added : notes' ≡ notes ++ kept
   pub counted : AreCounted kept old new
   pub exact : AreExact gives_back kept old new
+  pub missed : ℕ
+  pub few : missed ≤ most
+  pub openings : new.open_faults ≡ raised_by (missed + openings_noted kept) old.open_faults
+  pub given : new.given ≤ old.given + given_most
 
 -- the same of a session, whose commands may give files back
-abbrev pub AreKept : List FaultNote → List FaultNote → FileState → FileState → Type 0
-AreKept notes notes' old new = KeptAs true notes notes' old new
+abbrev pub AreKept : ℕ → ℕ → List FaultNote → List FaultNote → FileState → FileState → Type 0
+AreKept most given_most notes notes' old new = KeptAs true most given_most notes notes' old new
+
+-- the same of a text, by what it asks
+abbrev pub AreKeptBy : Bool → Asked → List FaultNote → List FaultNote → FileState → FileState → Type 0
+AreKeptBy tells what notes notes' old new = AreKept (most_missed tells (opens_asked what)) (most_opened (opens_asked what)) notes notes' old new
+
+-- the same of the texts that so many units have paid for
+abbrev pub AreKeptFor : Bool → ℕ → List FaultNote → List FaultNote → FileState → FileState → Type 0
+AreKeptFor tells units notes notes' old new = AreKept (missed_for tells units) (given_for units) notes notes' old new
+
+-- The same of a whole session: it has spent so many units of its budget, by which the number of its last command rose, up
+-- to where that stands still.
+pub record SessionKept (tells : Bool) (budget number number' : ℕ) (notes notes' : List FaultNote) (old new : FileState) : Type 0 where
+  pub spent : ℕ
+  pub within : spent ≤ budget
+  pub number_is : number' ≡ spent_more number spent
+  pub kept : AreKeptFor tells spent notes notes' old new
 
 -- Each finish has its cause: the console's count rose by one where it failed, and stood still else, and so did the
 -- input's.

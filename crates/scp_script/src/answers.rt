@@ -20,7 +20,7 @@ ghost use Rattle.session_texts.specs.Scripts.{checked, arguments_of, label_of, b
 ghost use Rattle.session_texts.specs.Actions.{texts_of, coming, texts_behind, behind_refusal};
 ghost use Rattle.session_texts.specs.Actions.{text_of_stop, put_first, overflow_text};
 ghost use Rattle.scp_script.specs.Session.{text_reply};
-ghost use Rattle.scp_script.specs.Loop.{IsAnswer, Answers, AnswerCounts, HasExitStatus, AreKept, IsShort};
+ghost use Rattle.scp_script.specs.Loop.{IsAnswer, Answers, AnswerCounts, HasExitStatus, AreKeptBy, IsShort};
 ghost use Rattle.scp_script.specs.Loop.{Complains, Denies, Follows, FitsIn};
 ghost use Rattle.scp_script.specs.Used.{TextTold};
 ghost use Rattle.scp_script.specs.Spending.{EndOf, IsNoExit, NextOf, OpensOne};
@@ -73,7 +73,8 @@ pub fn answer<U: Unit, F: Files, L: Lines, S: Sink>(
     ensures asked { EndOf (asked line.now) result }
     ensures scripts { OpensOne texts.old.scripts result texts.new.scripts }
     ensures command { session.new.command ≡ session.old.command }
-    ensures keeps { AreKept session.old.notes session.new.notes (F.state files.old) (F.state files.new) }
+    ensures keeps { AreKeptBy F.tells (asked line.now) session.old.notes session.new.notes (F.state files.old)
+        (F.state files.new) }
     ensures whose { AreOwn session.old.machine.slots session.new.machine.slots session.old.notes session.new.notes
         (F.state files.old) (F.state files.new) }
     ensures keys { session.new.keys ≡ session.old.keys }
@@ -127,7 +128,8 @@ fn obey<U: Unit, F: Files, L: Lines, S: Sink>(
     ensures asked { EndOf (Ok command.now) result }
     ensures scripts { OpensOne texts.old.scripts result texts.new.scripts }
     ensures command { session.new.command ≡ session.old.command }
-    ensures keeps { AreKept session.old.notes session.new.notes (F.state files.old) (F.state files.new) }
+    ensures keeps { AreKeptBy F.tells (Ok command.now) session.old.notes session.new.notes (F.state files.old)
+        (F.state files.new) }
     ensures whose { AreOwn session.old.machine.slots session.new.machine.slots session.old.notes session.new.notes
         (F.state files.old) (F.state files.new) }
     ensures keys { session.new.keys ≡ session.old.keys }

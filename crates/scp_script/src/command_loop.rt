@@ -16,7 +16,7 @@ ghost use Rattle.session_texts.specs.Reading.{IsReading, Pays};
 ghost use Rattle.session_texts.specs.Scripts.{cost_of_line, still_open};
 ghost use Rattle.scp_script.specs.Session.{prompt_text, spent_more};
 ghost use Rattle.scp_script.specs.Loop.{session_of, NumbersSuffice, Stepped, ProgressCause, PaysFor};
-ghost use Rattle.scp_script.specs.Loop.{AreKept, KeptInLine};
+ghost use Rattle.scp_script.specs.Loop.{AreKeptFor, KeptInLine};
 ghost use Rattle.scp_script.specs.Used.{NextTold};
 ghost use Rattle.scp_script.specs.Spending.{OpensOne, TextCause};
 
@@ -71,7 +71,8 @@ pub fn next_line<U: Unit, C: Source, F: Files, L: Lines, S: Sink>(
     ensures scripts { OpensOne lines.old.texts.scripts result lines.new.texts.scripts }
     ensures command { session.new.command
         ≡ spent_more session.old.command (lines.old.budget - lines.new.budget) }
-    ensures keeps { AreKept session.old.notes session.new.notes (F.state files.old) (F.state files.new) }
+    ensures keeps { AreKeptFor F.tells (lines.old.budget - lines.new.budget) session.old.notes session.new.notes
+        (F.state files.old) (F.state files.new) }
     ensures whose { AreOwn session.old.machine.slots session.new.machine.slots session.old.notes session.new.notes
         (F.state files.old) (F.state files.new) }
     ensures kept { KeptInLine result session.new.machine.slots session.new.notes (F.state files.old)
@@ -132,7 +133,8 @@ fn action<U: Unit, F: Files, L: Lines, S: Sink>(
     ensures scripts { OpensOne lines.old.texts.scripts result lines.new.texts.scripts }
     ensures command { session.new.command
         ≡ spent_more session.old.command (lines.old.budget - lines.new.budget) }
-    ensures keeps { AreKept session.old.notes session.new.notes (F.state files.old) (F.state files.new) }
+    ensures keeps { AreKeptFor F.tells (lines.old.budget - lines.new.budget) session.old.notes session.new.notes
+        (F.state files.old) (F.state files.new) }
     ensures whose { AreOwn session.old.machine.slots session.new.machine.slots session.old.notes session.new.notes
         (F.state files.old) (F.state files.new) }
     ensures kept { KeptInLine result session.new.machine.slots session.new.notes (F.state files.old)
@@ -206,7 +208,8 @@ fn input_line<U: Unit, C: Source, F: Files, L: Lines, S: Sink>(
     ensures scripts { OpensOne lines.old.texts.scripts result lines.new.texts.scripts }
     ensures command { session.new.command
         ≡ spent_more session.old.command (lines.old.budget - lines.new.budget) }
-    ensures keeps { AreKept session.old.notes session.new.notes (F.state files.old) (F.state files.new) }
+    ensures keeps { AreKeptFor F.tells (lines.old.budget - lines.new.budget) session.old.notes session.new.notes
+        (F.state files.old) (F.state files.new) }
     ensures whose { AreOwn session.old.machine.slots session.new.machine.slots session.old.notes session.new.notes
         (F.state files.old) (F.state files.new) }
     ensures kept { KeptInLine result session.new.machine.slots session.new.notes (F.state files.old)
@@ -288,7 +291,8 @@ fn script_line<U: Unit, F: Files, L: Lines, S: Sink>(
     ensures scripts { OpensOne (script ∷ lines.old.texts.scripts) result lines.new.texts.scripts }
     ensures command { session.new.command
         ≡ spent_more session.old.command (lines.old.budget - lines.new.budget) }
-    ensures keeps { AreKept session.old.notes session.new.notes (F.state files.old) (F.state files.new) }
+    ensures keeps { AreKeptFor F.tells (lines.old.budget - lines.new.budget) session.old.notes session.new.notes
+        (F.state files.old) (F.state files.new) }
     ensures whose { AreOwn session.old.machine.slots session.new.machine.slots session.old.notes session.new.notes
         (F.state files.old) (F.state files.new) }
     ensures kept { KeptInLine result session.new.machine.slots session.new.notes (F.state files.old)

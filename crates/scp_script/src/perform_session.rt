@@ -11,7 +11,7 @@ ghost use Rattle.nova_machine.specs.Comes.{output};
 ghost use Rattle.state_transfer.specs.SavedValid.{AreStandard};
 ghost use Rattle.command_session.specs.Live.{live_in, beyond};
 ghost use Rattle.command_session.specs.LinesLeft.{LinesLeft};
-ghost use Rattle.scp_script.specs.Loop.{NumbersSuffice, FinishCause, AreKept, KeptCause};
+ghost use Rattle.scp_script.specs.Loop.{NumbersSuffice, FinishCause, SessionKept, KeptCause};
 ghost use Rattle.session_texts.specs.Scripts.{first_script, AreFiles};
 ghost use Rattle.scp_script.specs.Perform.{beginning, Performed};
 ghost use Rattle.scp_script.specs.Spending.{Spends};
@@ -49,8 +49,9 @@ pub struct Opening {
 /// written back.
 ///
 /// The notes that it keeps are those of the calls on files that failed in it, one for each, but for the closings of
-/// files that a refused ATTACH or RESTORE has opened itself. Memory is taken for those of a command before its line is
-/// read.
+/// files that a refused ATTACH or RESTORE has opened itself, and for the openings of files that are missing, of which
+/// there are two at most for each unit that it spends, and none where files tell. Memory is taken for those of a
+/// command before its line is read.
 ///
 /// The machine has the ten units of a standard one, and keeps them.
 ///
@@ -84,7 +85,8 @@ pub fn perform<U: Unit, C: Source, F: Files, L: Lines, S: Sink>(
         opening.now.budget session.old.command session.new.command }
     ensures cause { FinishCause result (S.fault_count out.old) (S.fault_count out.new) (C.fault_count input.old)
         (C.fault_count input.new) }
-    ensures keeps { AreKept session.old.notes session.new.notes (F.state files.old) (F.state files.new) }
+    ensures keeps { SessionKept F.tells opening.now.budget session.old.command session.new.command session.old.notes
+        session.new.notes (F.state files.old) (F.state files.new) }
     ensures whose { AreOwn session.old.machine.slots session.new.machine.slots session.old.notes session.new.notes
         (F.state files.old) (F.state files.new) }
     ensures kept { KeptCause result session.new.machine.slots session.new.notes (F.state files.old)

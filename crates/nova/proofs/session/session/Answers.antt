@@ -20,6 +20,7 @@ returns-clause-ended g c =
         measured = promised.measured;
         notes = promised.notes;
         exact = promised.exact;
+        openings = promised.openings;
         whose = promised.whose;
         unwritten = promised.unwritten;
         machine = promised.machine;

@@ -1,7 +1,8 @@
 use Rattle.std.proofs.Common.{refl, arith, ap, sym, ◌∙◌, subst, List, Option}
 use Rattle.file_commands.specs.declared.note.FaultNote.{FaultNote}
 use Rattle.file_commands.specs.OwnFiles.{AreOwn}
-use Rattle.scp_script.specs.Loop.{KeptCause}
+use Rattle.scp_script.specs.Loop.{KeptCause, AreKeptFor}
+use Rattle.scp_script.proofs.KeptLemmas.{kept-within}
 use Rattle.unit_files.specs.Open.{AllOpen, Around}
 use Rattle.unit_files.specs.Attachments.{Held}
 use Rattle.nova_machine.specs.Comes.{output}
@@ -62,3 +63,13 @@ returns-clause-whose g c =
       subst (λ (l : List FaultNote). AreOwn c.args.session.machine.slots new.machine.slots c.args.session.notes l (g.F.Files.state c.args.files.now) (g.F.Files.state c.perform-finish.new.files))
           notes c.perform-finish.ensures.whose,
     )
+
+pub returns-clause-keeps : goal.returns-clause-keeps
+returns-clause-keeps g c =
+    let notes = sym (ap (λ (s : CommandState). s.notes) c.session.view_is) in
+    let kept = c.perform-finish.ensures.keeps in
+    let old = g.F.Files.state c.args.files.now in
+    let new = g.F.Files.state c.perform-finish.new.files in
+    let budget = c.args.opening.now.budget in
+    subst (λ (l : List FaultNote). AreKeptFor g.F.Files.tells budget c.args.session.notes l old new) notes
+    (kept-within g.F.Files.tells kept.spent budget c.args.session.notes c.perform-finish.new.session.notes old new kept.within kept.kept)

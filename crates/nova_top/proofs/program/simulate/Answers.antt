@@ -1,4 +1,4 @@
-use Rattle.std.proofs.Common.{◌≡◌, ◌⊎◌, Some, inl, inr, true, IsTrue, Err, List, [], Option, map, refl, ap, sym, ◌∙◌, subst, arith, String, Global}
+use Rattle.std.proofs.Common.{◌≡◌, ◌⊎◌, ℕ, Some, inl, inr, true, IsTrue, Err, List, [], Option, map, refl, ap, sym, ◌∙◌, subst, arith, String, Global}
 use Rattle.file_commands.specs.declared.note.FaultNote.{FaultNote}
 use Rattle.file_commands.specs.Notes.{notes_said}
 use Rattle.file_commands.specs.Counts.{AreCounted}
@@ -12,7 +12,7 @@ use Rattle.file_commands.proofs.Adding.{counted-none}
 use Rattle.file_traits.specs.Lists.{NamedBytes}
 use Rattle.state_transfer.specs.SavedValid.{AreStandard}
 use Rattle.command_session.specs.Live.{CommandState, beyond}
-use Rattle.scp_script.specs.Loop.{AreKept}
+use Rattle.scp_script.specs.Loop.{AreKeptFor}
 use Rattle.program_start.specs.declared.word_files.Refusal.{Refusal}
 use Rattle.program_start.specs.WordFiles.{AreWordClosings, NamesTold, StartsWith}
 use Rattle.nova_top.specs.Ends.{InputTells, HasKeysFile, HasScript}
@@ -24,6 +24,7 @@ use Rattle.command_words.specs.Words.{options_of, texts_of}
 use Rattle.command_words.specs.declared.options.Options.{Options}
 use Rattle.program_start.specs.Workload.{with_workload}
 use Rattle.nova_top.proofs.ProgramLemmas.{Begun, Made, begun-files, begun-line, new-slots, new-standard, workload-given, kept-exact, refused-exact, no-exact, usage-answer, files-answer, files-memory, files-status, files-cause, session-answer, memory-answer, session-cause, session-status, refused-status, kept-counted, refused-counted, complete-answer, never-unwritten, denied-unwritten, unwritten-whole}
+use Rattle.nova_top.proofs.CountLemmas.{no-openings, refused-openings, session-openings}
 use Rattle.nova_top.proofs.PortLemmas.{lines-unasked}
 use Rattle.nova_top.proofs.ResumptionLemmas.{resumes-saved}
 use Rattle.nova_top.proofs.UnreadLemmas.{usage-opened, refused-unopened, refused-keys, refused-measured, session-opened, session-keys, session-measured}
@@ -204,14 +205,14 @@ returns-in-Ok-begin-clause-memory g c = λ source used sink memory whole first.
 
 pub returns-in-Ok-begin-clause-notes : goal.returns-in-Ok-begin-clause-notes
 returns-in-Ok-begin-clause-notes g c =
-    kept-counted c.begin.new.notes.items c.run_session.result.faults.items (g.F.Files.state c.args.files.now) (g.F.Files.state c.begin.new.files) (g.F.Files.state c.run_session.new.files) c.begin.ensures.keeps
-    (subst (λ (s : CommandState). AreKept s.notes c.run_session.result.faults.items (g.F.Files.state c.begin.new.files) (g.F.Files.state c.run_session.new.files)) c.ready.ensures c.run_session.ensures.keeps)
+    kept-counted _ _ c.begin.new.notes.items c.run_session.result.faults.items (g.F.Files.state c.args.files.now) (g.F.Files.state c.begin.new.files) (g.F.Files.state c.run_session.new.files) c.begin.ensures.keeps
+    (subst (λ (s : CommandState). AreKeptFor g.F.Files.tells c.open_with-opening.result.budget s.notes c.run_session.result.faults.items (g.F.Files.state c.begin.new.files) (g.F.Files.state c.run_session.new.files)) c.ready.ensures c.run_session.ensures.keeps)
 
 pub returns-in-Ok-begin-clause-exact : goal.returns-in-Ok-begin-clause-exact
 returns-in-Ok-begin-clause-exact g c =
-    kept-exact c.begin.new.notes.items c.run_session.result.faults.items c.run_session.result.machine (g.F.Files.state c.args.files.now) (g.F.Files.state c.begin.new.files) (g.F.Files.state c.run_session.new.files)
+    kept-exact _ _ c.begin.new.notes.items c.run_session.result.faults.items c.run_session.result.machine (g.F.Files.state c.args.files.now) (g.F.Files.state c.begin.new.files) (g.F.Files.state c.run_session.new.files)
     c.begin.ensures.keeps
-    (subst (λ (s : CommandState). AreKept s.notes c.run_session.result.faults.items (g.F.Files.state c.begin.new.files) (g.F.Files.state c.run_session.new.files)) c.ready.ensures c.run_session.ensures.keeps)
+    (subst (λ (s : CommandState). AreKeptFor g.F.Files.tells c.open_with-opening.result.budget s.notes c.run_session.result.faults.items (g.F.Files.state c.begin.new.files) (g.F.Files.state c.run_session.new.files)) c.ready.ensures c.run_session.ensures.keeps)
     c.run_session.ensures.there
 
 pub returns-in-Err-clause-exact : goal.returns-in-Err-clause-exact
@@ -222,6 +223,30 @@ returns-in-Err-clause-exact g c =
 pub returns-in_default-clause-exact : goal.returns-in_default-clause-exact
 returns-in_default-clause-exact g c =
     no-exact c.usage.result.faults.items c.usage.result.machine (g.F.Files.state c.args.files.now) c.usage.ensures.notes
+
+-- ---- openings, and the ids that were given
+
+pub returns-in_default-clause-openings : goal.returns-in_default-clause-openings
+returns-in_default-clause-openings g c =
+    no-openings g.F.Files.tells (texts_of c.args.words.now) c.usage.result.status c.usage.result.machine c.usage.result.faults.items (g.F.Files.state c.args.files.now)
+    (sym c.options_of.ensures.options ∙ c.in_default.is) c.usage.ensures.notes
+
+pub returns-in-Err-clause-openings : goal.returns-in-Err-clause-openings
+returns-in-Err-clause-openings g c =
+    refused-openings g.F.Files.tells (texts_of c.args.words.now) c.in-Some.options c.in-Err.refusal c.refuse_files.result.status (g.S.Sink.fault_count c.args.output.now) (g.S.Sink.fault_count c.refuse_files.new.output)
+    c.refuse_files.result.machine c.begin.new.notes.items c.refuse_files.result.faults.items (g.F.Files.state c.args.files.now) (g.F.Files.state c.begin.new.files)
+    (sym c.options_of.ensures.options ∙ c.in-Some.is) c.refuse_files.ensures.machine (c.refuse_files.ensures.notes ∙ c.notes_of.ensures) c.in-Err.ensures.cause
+    c.refuse_files.ensures.cause c.begin.ensures.keeps c.in-Err.ensures.exact
+
+pub returns-in-Ok-begin-clause-openings : goal.returns-in-Ok-begin-clause-openings
+returns-in-Ok-begin-clause-openings g c =
+    let mid = g.F.Files.state c.begin.new.files in
+    let new = g.F.Files.state c.run_session.new.files in
+    let items = c.run_session.result.faults.items in
+    session-openings g.F.Files.tells (texts_of c.args.words.now) c.in-Some.options c.in-Ok-begin.field-0 c.run_session.result.status c.run_session.result.machine c.begin.new.notes.items items
+    (g.F.Files.state c.args.files.now) mid new (sym c.options_of.ensures.options ∙ c.in-Some.is) c.run_session.ensures.there c.in-Ok-begin.ensures.exact
+    (subst (λ (n : ℕ). AreKeptFor g.F.Files.tells n c.begin.new.notes.items items mid new) c.open_with-opening.ensures.budget
+    (subst (λ (s : CommandState). AreKeptFor g.F.Files.tells c.open_with-opening.result.budget s.notes items mid new) c.ready.ensures c.run_session.ensures.keeps))
 
 pub returns-in-Ok-begin-clause-complete : goal.returns-in-Ok-begin-clause-complete
 returns-in-Ok-begin-clause-complete g c = λ source used sink other quiet fed none whole first.

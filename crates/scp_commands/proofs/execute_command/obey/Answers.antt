@@ -1,4 +1,4 @@
-use Rattle.std.proofs.Common.{Bool, refl, ap, sym, ◌∙◌, subst, Some, false}
+use Rattle.std.proofs.Common.{refl, ap, sym, ◌∙◌, subst, Some}
 use Rattle.file_commands.specs.Notes.{notes_said}
 use Rattle.host_lines.specs.Told.{Heard}
 use Rattle.scp_parser.specs.Command.{request_of, Request, Save, Restore}

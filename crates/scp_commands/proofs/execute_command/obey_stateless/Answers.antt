@@ -1,4 +1,4 @@
-use Rattle.std.proofs.Common.{ap, sym, subst, false}
+use Rattle.std.proofs.Common.{ap, sym, subst}
 use Rattle.file_commands.specs.Notes.{notes_said}
 use Rattle.file_commands.proofs.OwnFiles.{unused}
 use Rattle.unit_files.specs.Open.{AllOpen, Around}

@@ -7,13 +7,14 @@ use Rattle.command_session.specs.Asked.{Asked, asked}
 use Rattle.command_session.proofs.AskedLemmas.{asked-as}
 use Rattle.command_session.proofs.PortLemmas.{left-same}
 use Rattle.session_texts.specs.Scripts.{checked}
-use Rattle.scp_script.specs.Loop.{Answers, IsShort}
+use Rattle.scp_script.specs.Loop.{Answers, AreKeptBy, IsShort}
 use Rattle.session_texts.specs.Actions.{coming}
 use Rattle.scp_script.specs.Used.{TextTold}
 use Rattle.scp_script.specs.Spending.{EndOf}
 use Rattle.scp_script.proofs.TextLemmas.{answers-none}
 use Rattle.scp_script.proofs.SpendingLemmas.{no-exit, opens-failed}
 use Rattle.scp_script.proofs.NoteLemmas.{never-short}
+use Rattle.scp_script.proofs.KeptLemmas.{kept-none}
 use Rattle.scp_script.proofs.answers.answer.Goals as goal
 
 pub returns-in-Ok-clause-told : goal.returns-in-Ok-clause-told
@@ -65,6 +66,16 @@ pub returns-in-Ok-clause-still : goal.returns-in-Ok-clause-still
 returns-in-Ok-clause-still g c = λ used untold.
     let is = asked-as c.args.line.now (Ok c.read_command.new.into) c.in-Ok.ensures.exact in
     c.obey.ensures.still (subst (λ (a : Asked). TextTold g.F.Files.tells g.L.Lines.tells c.args.session.now.machine c.args.texts.now.scripts a) is used) untold
+
+-- ---- the notes
+
+pub returns-in-Ok-clause-keeps : goal.returns-in-Ok-clause-keeps
+returns-in-Ok-clause-keeps g c =
+    let is = asked-as c.args.line.now (Ok c.read_command.new.into) c.in-Ok.ensures.exact in
+    subst (λ (a : Asked). AreKeptBy g.F.Files.tells a c.args.session.now.notes c.obey.new.session.notes (g.F.Files.state c.args.files.now) (g.F.Files.state c.obey.new.files)) (sym is) c.obey.ensures.keeps
+
+pub returns-in-Err-clause-keeps : goal.returns-in-Err-clause-keeps
+returns-in-Err-clause-keeps g c = kept-none _ _ c.args.session.now.notes (g.F.Files.state c.args.files.now)
 
 -- ---- an exit, and the scripts
 

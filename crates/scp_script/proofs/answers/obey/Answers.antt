@@ -1,4 +1,4 @@
-use Rattle.std.proofs.Common.{◌≡◌, [], ◌++◌, Ok, Err, refl, ap, sym, subst}
+use Rattle.std.proofs.Common.{◌≡◌, [], ◌++◌, length, Ok, Err, refl, ap, sym, subst}
 use Rattle.file_commands.specs.Notes.{notes_said}
 use Rattle.nova_machine.specs.Comes.{output}
 use Rattle.nova_machine.specs.LineChanges.{ports_of}
@@ -19,13 +19,14 @@ use Rattle.scp_script.proofs.UsedLemmas.{as-command, command-told, still-lines}
 use Rattle.scp_script.proofs.UndoneLemmas.{says, short-notes, refused-short}
 use Rattle.scp_script.proofs.PortLemmas.{IsUnasked, still-seen, live-still}
 use Rattle.scp_script.proofs.NoteLemmas.{never-short}
-use Rattle.scp_script.proofs.NextLemmas.{room-next, exit-next, untold-next}
+use Rattle.scp_script.proofs.NextLemmas.{IsPlain, room-next, exit-next, untold-next, untold-plain}
 use Rattle.scp_script.proofs.SpendingLemmas.{no-exit, opens-failed}
 use Rattle.command_session.specs.Doing.{is_restore, opens_of, told_by}
 use Rattle.command_session.specs.Nature.{Telling}
+use Rattle.command_session.specs.Nature.Telling.{Nothing}
 use Rattle.host_lines.specs.Told.{record_in}
 use Rattle.nova_machine.proofs.LineSteps.{first-same}
-use Rattle.scp_script.proofs.WholeLemmas.{kept-by}
+use Rattle.scp_script.proofs.KeptLemmas.{kept-none, kept-by, none-missing, plain-refused}
 use Rattle.scp_script.proofs.answers.obey.Goals as goal
 
 pub returns-then-is_too_deep-clause-told : goal.returns-then-is_too_deep-clause-told
@@ -160,15 +161,36 @@ returns-in-Err-clause-still g c = λ used untold.
 
 -- ---- the notes
 
+pub returns-then-is_too_deep-clause-keeps : goal.returns-then-is_too_deep-clause-keeps
+returns-then-is_too_deep-clause-keeps g c = kept-none _ _ c.args.session.now.notes (g.F.Files.state c.args.files.now)
+
+pub returns-in_default-clause-keeps : goal.returns-in_default-clause-keeps
+returns-in_default-clause-keeps g c = kept-none _ _ c.args.session.now.notes (g.F.Files.state c.args.files.now)
+
 pub returns-clause-keeps : goal.returns-clause-keeps
 returns-clause-keeps g c =
-    kept-by (is_restore c.args.command.now) (opens_of c.args.command.now) c.args.session.now.command c.args.session.now.machine.time c.execute.new.session.machine.time g.F.Files.tells c.execute.result
-    c.args.session.now.notes c.execute.new.session.notes (g.F.Files.state c.args.files.now) (g.F.Files.state c.execute.new.files) c.execute.ensures.keeps
+    kept-by (is_restore c.args.command.now) (opens_of c.args.command.now) c.args.session.now.command c.args.session.now.machine.time c.execute.new.session.machine.time g.F.Files.tells
+    (Ok c.in-Ok-execute.next) c.args.session.now.notes c.execute.new.session.notes (g.F.Files.state c.args.files.now) (g.F.Files.state c.execute.new.files) (λ none. refl) c.in-Ok-execute.ensures.keeps
 
+-- a command that opens no file is refused for none that is missing: its answer is that of the definition where it works on no
+-- file and no line
 pub returns-in-Err-clause-keeps : goal.returns-in-Err-clause-keeps
 returns-in-Err-clause-keeps g c =
-    kept-by (is_restore c.args.command.now) (opens_of c.args.command.now) c.args.session.now.command c.args.session.now.machine.time c.execute.new.session.machine.time g.F.Files.tells c.execute.result
-    c.args.session.now.notes c.execute.new.session.notes (g.F.Files.state c.args.files.now) (g.F.Files.state c.execute.new.files) c.execute.ensures.keeps
+    let session = c.args.session.now in
+    let r = c.args.command.now in
+    let why = c.in-Err.fault in
+    let ports = g.L.Lines.state c.args.lines.now in
+    let ports' = g.L.Lines.state c.execute.new.lines in
+    let whole = record_in ports'.told in
+    let live = live_in session (beyond (g.F.Files.state c.args.files.now).files ports whole) in
+    let new = live_in c.execute.new.session (beyond (g.F.Files.state c.execute.new.files).files ports' whole) in
+    let plain : (nature r).telling ≡ Nothing → IsPlain (Err why) = λ untold.
+    let did = c.in-Err.ensures.told (subst (λ (t : Telling). told_by t g.F.Files.tells session.machine.slots g.L.Lines.tells ports session.machine.lines) (sym untold) tt) whole (first-same whole) in
+    let own = did.own in
+    plain-refused (effect session.limit (own ++ []) live r) why (standing (length own) new) g.S.Sink.tells (output (g.S.Sink.written c.args.out.now) ports.sent)
+    (output (g.S.Sink.written c.execute.new.out) ports'.sent) (did.does [] tt) (untold-plain session.limit (own ++ []) live r untold) in
+    kept-by (is_restore r) (opens_of r) session.command session.machine.time c.execute.new.session.machine.time g.F.Files.tells (Err why) session.notes c.execute.new.session.notes
+    (g.F.Files.state c.args.files.now) (g.F.Files.state c.execute.new.files) (none-missing r why (λ short. (c.in-Err.ensures.answers short).1) plain) c.in-Err.ensures.keeps
 
 -- ---- an exit, and the scripts
 

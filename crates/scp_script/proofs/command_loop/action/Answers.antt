@@ -10,11 +10,12 @@ use Rattle.scp_script.specs.declared.progress.Progress.TheVariants.{GoesOn, IsOv
 use Rattle.scp_script.specs.declared.progress.Finish.TheVariants.{Commands}
 use Rattle.session_texts.specs.Actions.{Texts, texts_of, coming}
 use Rattle.scp_script.specs.Session.{spent_more}
-use Rattle.scp_script.specs.Loop.{IsShort, Answers, session_of}
+use Rattle.scp_script.specs.Loop.{IsShort, Answers, opens_asked, AreKeptFor, session_of}
 use Rattle.scp_script.proofs.UsedLemmas.{action-used}
 use Rattle.scp_script.proofs.SessionLemmas.{action-unpaid, asking-action}
 use Rattle.scp_script.proofs.LineLemmas.{text-unpaid}
 use Rattle.scp_script.proofs.NoteLemmas.{has-first, action-text, action-there, action-stepped, over-alone, left-at, same-read, answer-kept}
+use Rattle.scp_script.proofs.KeptLemmas.{kept-none, kept-paid}
 use Rattle.scp_script.proofs.PortLemmas.{left-kept}
 use Rattle.session_texts.specs.Scripts.{still_open}
 use Rattle.session_texts.proofs.OpenLemmas.{stack-as}
@@ -133,6 +134,31 @@ returns-in-Some-clause-still g c = λ untold whole input next.
     c.answer.ensures.still
     (action-used g.F.Files.tells g.L.Lines.tells session paid named lines now input first.action (take c.in-Some.length c.take.new.out) first.others (ap (λ (x : CommandState). x.machine) is)
     (ap (λ (x : CommandLoop). x.texts.scripts) c.pay.ensures.lines) first.is paid_for.0 text next) untold
+
+-- ---- the notes
+
+pub returns-then-not-pay-clause-keeps : goal.returns-then-not-pay-clause-keeps
+returns-then-not-pay-clause-keeps g c =
+    let notes = c.args.session.now.notes in
+    let files = g.F.Files.state c.args.files.now in
+    subst (λ (x : CommandState). AreKeptFor g.F.Files.tells (c.args.lines.now.budget - c.pay.new.lines.budget) notes x.notes files files) (sym c.pay.ensures.rest) (kept-none _ _ notes files)
+
+pub returns-in-Some-clause-keeps : goal.returns-in-Some-clause-keeps
+returns-in-Some-clause-keeps g c =
+    let lines = c.args.lines.now in
+    let now = c.pay.new.lines in
+    let paid = c.pay.ensures.paid c.if-not-pay.false in
+    let old = g.F.Files.state c.args.files.now in
+    let new = g.F.Files.state c.answer.new.files in
+    let notes = c.answer.new.session.notes in
+    subst (λ (x : CommandState). AreKeptFor g.F.Files.tells (lines.budget - now.budget) x.notes notes old new) c.pay.ensures.rest
+    (kept-paid g.F.Files.tells (opens_asked (asked (take c.in-Some.length c.take.new.out))) lines.budget now.budget c.pay.new.session.notes notes old new (omega (arith, paid.0, paid.1)) c.answer.ensures.keeps)
+
+pub returns-in-None-clause-keeps : goal.returns-in-None-clause-keeps
+returns-in-None-clause-keeps g c =
+    let notes = c.args.session.now.notes in
+    let files = g.F.Files.state c.args.files.now in
+    subst (λ (x : CommandState). AreKeptFor g.F.Files.tells (c.args.lines.now.budget - c.pay.new.lines.budget) notes x.notes files files) (sym c.pay.ensures.rest) (kept-none _ _ notes files)
 
 -- ---- what was spent, and on what
 

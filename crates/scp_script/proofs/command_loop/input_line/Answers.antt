@@ -1,4 +1,4 @@
-use Rattle.std.proofs.Common.{Some, None, ◌≡◌, ◌<◌, [], Ok, Err, refl, ap, sym, ◌∙◌, subst, arith, ◌++◌, List}
+use Rattle.std.proofs.Common.{Some, None, ◌≡◌, ◌<◌, ◌-◌, [], Ok, Err, refl, ap, sym, ◌∙◌, subst, arith, ◌++◌, List}
 use Rattle.unit_files.specs.Open.{Around}
 use Rattle.file_commands.specs.Notes.{Note, notes_said}
 use Rattle.scp_parser.specs.declared.fault.ParseFault.TheVariants.{TooLong}
@@ -18,9 +18,8 @@ use Rattle.session_texts.specs.Scripts.{checked}
 use Rattle.session_texts.specs.Actions.{Texts, texts_of, coming}
 use Rattle.file_commands.specs.AllUnits.{keeper}
 use Rattle.command_session.specs.declared.next.Next.TheVariants.{Go}
-use Rattle.command_session.specs.FileEffects.{kept_answer}
-use Rattle.scp_script.proofs.WholeLemmas.{kept-last, kept-none}
-use Rattle.scp_script.specs.Loop.{IsShort, Answers, AreKept, session_of}
+use Rattle.scp_script.proofs.KeptLemmas.{kept-last, kept-none, kept-paid}
+use Rattle.scp_script.specs.Loop.{IsShort, Answers, opens_asked, AreKeptFor, session_of}
 use Rattle.scp_script.proofs.TextLemmas.{answers-none}
 use Rattle.scp_script.proofs.LineLemmas.{none-read, prompt-refused, budget-spent, input-failed}
 use Rattle.scp_script.proofs.NoteLemmas.{line-stepped, over-alone, input-closed, left-at, never-short, spent-line, answer-kept}
@@ -293,27 +292,52 @@ returns-in-Err-detach_all-clause-still g c = λ source untold whole next. ap (λ
 
 pub returns-in-Ok-detach_all-clause-keeps : goal.returns-in-Ok-detach_all-clause-keeps
 returns-in-Ok-detach_all-clause-keeps g c =
-    subst (λ (x : CommandState). AreKept x.notes c.detach_all.new.self.notes (g.F.Files.state c.args.files.now) (g.F.Files.state c.detach_all.new.files)) c.read_paid.ensures.rest
-    (kept-last c.read_paid.new.session.command c.detach_all.new.self.machine.time g.F.Files.tells (kept_answer (keeper c.detach_all.result) Go) c.read_paid.new.session.notes c.detach_all.new.self.notes
-    (g.F.Files.state c.args.files.now) (g.F.Files.state c.detach_all.new.files) c.detach_all.ensures.keeps)
+    let units = c.args.lines.now.budget - c.read_paid.new.lines.budget in
+    let old = g.F.Files.state c.args.files.now in
+    let new = g.F.Files.state c.detach_all.new.files in
+    let done = c.detach_all.new.self in
+    subst (λ (x : CommandState). AreKeptFor g.F.Files.tells units x.notes done.notes old new) c.read_paid.ensures.rest
+    (kept-last c.read_paid.new.session.command done.machine.time g.F.Files.tells (keeper c.detach_all.result) c.read_paid.new.session.notes done.notes old new units c.detach_all.ensures.keeps)
 
 pub returns-in-Err-detach_all-clause-keeps : goal.returns-in-Err-detach_all-clause-keeps
 returns-in-Err-detach_all-clause-keeps g c =
-    subst (λ (x : CommandState). AreKept x.notes c.detach_all.new.self.notes (g.F.Files.state c.args.files.now) (g.F.Files.state c.detach_all.new.files)) c.read_paid.ensures.rest
-    (kept-last c.read_paid.new.session.command c.detach_all.new.self.machine.time g.F.Files.tells (kept_answer (keeper c.detach_all.result) Go) c.read_paid.new.session.notes c.detach_all.new.self.notes
-    (g.F.Files.state c.args.files.now) (g.F.Files.state c.detach_all.new.files) c.detach_all.ensures.keeps)
+    let units = c.args.lines.now.budget - c.read_paid.new.lines.budget in
+    let old = g.F.Files.state c.args.files.now in
+    let new = g.F.Files.state c.detach_all.new.files in
+    let done = c.detach_all.new.self in
+    subst (λ (x : CommandState). AreKeptFor g.F.Files.tells units x.notes done.notes old new) c.read_paid.ensures.rest
+    (kept-last c.read_paid.new.session.command done.machine.time g.F.Files.tells (keeper c.detach_all.result) c.read_paid.new.session.notes done.notes old new units c.detach_all.ensures.keeps)
+
+pub returns-in-Line-clause-keeps : goal.returns-in-Line-clause-keeps
+returns-in-Line-clause-keeps g c =
+    let lines = c.args.lines.now in
+    let now = c.read_paid.new.lines in
+    let old = g.F.Files.state c.args.files.now in
+    let new = g.F.Files.state c.answer.new.files in
+    let notes = c.answer.new.session.notes in
+    subst (λ (x : CommandState). AreKeptFor g.F.Files.tells (lines.budget - now.budget) x.notes notes old new) c.read_paid.ensures.rest
+    (kept-paid g.F.Files.tells (opens_asked (asked c.line.result.now)) lines.budget now.budget c.read_paid.new.session.notes notes old new c.in-Line.ensures.pays c.answer.ensures.keeps)
+
+pub returns-in-Err-clause-keeps : goal.returns-in-Err-clause-keeps
+returns-in-Err-clause-keeps g c = kept-none _ _ c.args.session.now.notes (g.F.Files.state c.args.files.now)
 
 pub returns-in-TooLong-clause-keeps : goal.returns-in-TooLong-clause-keeps
 returns-in-TooLong-clause-keeps g c =
     let notes = c.args.session.now.notes in
     let files = g.F.Files.state c.args.files.now in
-    subst (λ (x : CommandState). AreKept notes x.notes files files) (sym c.read_paid.ensures.rest) (kept-none notes files)
+    subst (λ (x : CommandState). AreKeptFor g.F.Files.tells (c.args.lines.now.budget - c.read_paid.new.lines.budget) notes x.notes files files) (sym c.read_paid.ensures.rest) (kept-none _ _ notes files)
 
 pub returns-in-Unpaid-clause-keeps : goal.returns-in-Unpaid-clause-keeps
 returns-in-Unpaid-clause-keeps g c =
     let notes = c.args.session.now.notes in
     let files = g.F.Files.state c.args.files.now in
-    subst (λ (x : CommandState). AreKept notes x.notes files files) (sym c.read_paid.ensures.rest) (kept-none notes files)
+    subst (λ (x : CommandState). AreKeptFor g.F.Files.tells (c.args.lines.now.budget - c.read_paid.new.lines.budget) notes x.notes files files) (sym c.read_paid.ensures.rest) (kept-none _ _ notes files)
+
+pub returns-in-Failed-clause-keeps : goal.returns-in-Failed-clause-keeps
+returns-in-Failed-clause-keeps g c =
+    let notes = c.args.session.now.notes in
+    let files = g.F.Files.state c.args.files.now in
+    subst (λ (x : CommandState). AreKeptFor g.F.Files.tells (c.args.lines.now.budget - c.read_paid.new.lines.budget) notes x.notes files files) (sym c.read_paid.ensures.rest) (kept-none _ _ notes files)
 
 -- ---- what was spent, and on what
 

@@ -1,4 +1,4 @@
-use Rattle.std.proofs.Common.{inr, [], ◌∷◌, ap, sym, ◌∙◌, refl, subst, arith}
+use Rattle.std.proofs.Common.{inr, ◌-◌, [], ◌∷◌, ap, sym, ◌∙◌, refl, subst, arith}
 use Rattle.file_commands.specs.Notes.{notes_said}
 use Rattle.nova_machine.specs.Comes.{output}
 use Rattle.telnet_lines.specs.Many.{AreApart}
@@ -7,11 +7,12 @@ use Rattle.command_session.specs.LinesLeft.{LinesLeft}
 use Rattle.scp_script.specs.declared.progress.Progress.TheVariants.{IsOver}
 use Rattle.scp_script.specs.declared.progress.Finish.TheVariants.{Exit, OutOfMemory}
 use Rattle.session_texts.specs.Actions.{texts_of}
-use Rattle.scp_script.specs.Loop.{session_of, Stepped}
+use Rattle.scp_script.specs.Loop.{session_of, AreKeptFor, Stepped}
 use Rattle.scp_script.specs.Used.{NextTold}
 use Rattle.scp_script.proofs.UsedLemmas.{told-still}
 use Rattle.scp_script.proofs.LineLemmas.{none-read, all-done}
 use Rattle.scp_script.proofs.NoteLemmas.{over-alone, room-refused, left-at, closed-before}
+use Rattle.scp_script.proofs.KeptLemmas.{kept-none}
 use Rattle.scp_script.proofs.PortLemmas.{left-kept}
 use Rattle.session_texts.specs.Scripts.{still_open}
 use Rattle.session_texts.proofs.OpenLemmas.{stack-as, stack-still}
@@ -157,6 +158,37 @@ returns-in-None-clause-still g c = λ source untold whole next.
     let used = subst (λ (x : CommandState). NextTold g.F.Files.tells g.L.Lines.tells (session_of x named (record lines { texts = record lines.texts { scripts = scripts } }) left [])) (sym c.take_room.ensures.rest)
     (told-still g.F.Files.tells g.L.Lines.tells (session_of session named lines left []) scripts (c.is_empty.ensures.0 c.if-not-is_empty.false) (c.in-None.ensures.taken.0 ∙ sym c.in-None.ensures.taken.1) next) in
     c.input_line.ensures.still (source c.if-lines.true) untold whole used
+
+-- ---- the notes
+
+pub returns-then-not-is_empty-clause-keeps : goal.returns-then-not-is_empty-clause-keeps
+returns-then-not-is_empty-clause-keeps g c =
+    let units = c.args.lines.now.budget - c.action.new.lines.budget in
+    subst (λ (x : CommandState). AreKeptFor g.F.Files.tells units x.notes c.action.new.session.notes (g.F.Files.state c.args.files.now) (g.F.Files.state c.action.new.files)) c.take_room.ensures.rest c.action.ensures.keeps
+
+pub returns-in-Some-clause-keeps : goal.returns-in-Some-clause-keeps
+returns-in-Some-clause-keeps g c =
+    let units = c.args.lines.now.budget - c.script_line.new.lines.budget in
+    subst (λ (x : CommandState). AreKeptFor g.F.Files.tells units x.notes c.script_line.new.session.notes (g.F.Files.state c.args.files.now) (g.F.Files.state c.script_line.new.files)) c.take_room.ensures.rest c.script_line.ensures.keeps
+
+pub returns-in-None-clause-keeps : goal.returns-in-None-clause-keeps
+returns-in-None-clause-keeps g c =
+    let units = c.args.lines.now.budget - c.input_line.new.lines.budget in
+    subst (λ (x : CommandState). AreKeptFor g.F.Files.tells units x.notes c.input_line.new.session.notes (g.F.Files.state c.args.files.now) (g.F.Files.state c.input_line.new.files)) c.take_room.ensures.rest c.input_line.ensures.keeps
+
+pub returns-then-is_err-clause-keeps : goal.returns-then-is_err-clause-keeps
+returns-then-is_err-clause-keeps g c =
+    let notes = c.args.session.now.notes in
+    let files = g.F.Files.state c.args.files.now in
+    let units = c.args.lines.now.budget - c.args.lines.now.budget in
+    subst (λ (x : CommandState). AreKeptFor g.F.Files.tells units notes x.notes files files) (sym c.take_room.ensures.rest) (kept-none _ _ notes files)
+
+pub returns-in-None-2-clause-keeps : goal.returns-in-None-2-clause-keeps
+returns-in-None-2-clause-keeps g c =
+    let notes = c.args.session.now.notes in
+    let files = g.F.Files.state c.args.files.now in
+    let units = c.args.lines.now.budget - c.args.lines.now.budget in
+    subst (λ (x : CommandState). AreKeptFor g.F.Files.tells units notes x.notes files files) (sym c.take_room.ensures.rest) (kept-none _ _ notes files)
 
 -- ---- what was spent, and on what
 

@@ -14,12 +14,12 @@ use Rattle.scp_script.specs.declared.progress.Finish.TheVariants.{Commands, Cons
 use Rattle.scp_script.specs.Session.{spent_more}
 use Rattle.session_texts.specs.Actions.{Texts, texts_of, coming}
 use Rattle.session_texts.specs.Scripts.{Script, cost_of_line, text_of_line, echo_text, past_line, checked}
-use Rattle.scp_script.specs.Loop.{IsShort, Answers, AreKept, session_of}
+use Rattle.scp_script.specs.Loop.{IsShort, Answers, opens_asked, AreKeptFor, session_of}
 use Rattle.scp_script.proofs.SessionLemmas.{upcoming-unpaid, asking-unpaid, asking-script}
 use Rattle.scp_script.proofs.TextLemmas.{answers-none}
 use Rattle.scp_script.proofs.LineLemmas.{asking-refused, text-unpaid, some-fits, none-fits}
 use Rattle.scp_script.proofs.NoteLemmas.{script-stepped, over-alone, left-at, never-short, same-read, answer-kept}
-use Rattle.scp_script.proofs.WholeLemmas.{kept-none}
+use Rattle.scp_script.proofs.KeptLemmas.{kept-none, kept-paid}
 use Rattle.scp_script.proofs.PortLemmas.{left-kept}
 use Rattle.scp_script.proofs.UsedLemmas.{script-used}
 use Rattle.session_texts.proofs.OpenLemmas.{stack-as, stack-past}
@@ -182,7 +182,7 @@ pub returns-in-None-clause-keeps : goal.returns-in-None-clause-keeps
 returns-in-None-clause-keeps g c =
     let files = g.F.Files.state c.args.files.now in
     let notes = c.args.session.now.notes in
-    subst (λ (x : CommandState). AreKept notes x.notes files files) (sym c.pay.ensures.rest) (kept-none notes files)
+    subst (λ (x : CommandState). AreKeptFor g.F.Files.tells (c.args.lines.now.budget - c.pay.new.lines.budget) notes x.notes files files) (sym c.pay.ensures.rest) (kept-none _ _ notes files)
 
 pub returns-then-not-pay-clause-ports : goal.returns-then-not-pay-clause-ports
 returns-then-not-pay-clause-ports g c =
@@ -204,11 +204,22 @@ returns-in-None-clause-ports g c =
     left-kept g.L.Lines.tells (g.L.Lines.state c.args.ports.now) c.args.session.now.machine.lines c.pay.new.session.machine.lines
     (ap (λ (x : CommandState). x.machine.lines) c.pay.ensures.rest)
 
+pub returns-in-Some-clause-keeps : goal.returns-in-Some-clause-keeps
+returns-in-Some-clause-keeps g c =
+    let lines = c.args.lines.now in
+    let now = c.pay.new.lines in
+    let paid = c.pay.ensures.paid c.if-not-pay.false in
+    let old = g.F.Files.state c.args.files.now in
+    let new = g.F.Files.state c.answer.new.files in
+    let notes = c.answer.new.session.notes in
+    subst (λ (x : CommandState). AreKeptFor g.F.Files.tells (lines.budget - now.budget) x.notes notes old new) c.pay.ensures.rest
+    (kept-paid g.F.Files.tells (opens_asked (asked c.as_slice.result.now)) lines.budget now.budget c.pay.new.session.notes notes old new (omega (arith, paid.0, paid.1, c.line_cost.ensures)) c.answer.ensures.keeps)
+
 pub returns-in-Err-clause-keeps : goal.returns-in-Err-clause-keeps
 returns-in-Err-clause-keeps g c =
     let files = g.F.Files.state c.args.files.now in
     let notes = c.args.session.now.notes in
-    subst (λ (x : CommandState). AreKept notes x.notes files files) (sym c.pay.ensures.rest) (kept-none notes files)
+    subst (λ (x : CommandState). AreKeptFor g.F.Files.tells (c.args.lines.now.budget - c.pay.new.lines.budget) notes x.notes files files) (sym c.pay.ensures.rest) (kept-none _ _ notes files)
 
 pub returns-in-Some-clause-still : goal.returns-in-Some-clause-still
 returns-in-Some-clause-still g c = λ untold whole input next.
@@ -233,7 +244,7 @@ pub returns-then-not-pay-clause-keeps : goal.returns-then-not-pay-clause-keeps
 returns-then-not-pay-clause-keeps g c =
     let notes = c.args.session.now.notes in
     let files = g.F.Files.state c.args.files.now in
-    subst (λ (x : CommandState). AreKept notes x.notes files files) (sym c.pay.ensures.rest) (kept-none notes files)
+    subst (λ (x : CommandState). AreKeptFor g.F.Files.tells (c.args.lines.now.budget - c.pay.new.lines.budget) notes x.notes files files) (sym c.pay.ensures.rest) (kept-none _ _ notes files)
 
 -- ---- what was spent, and on what
 

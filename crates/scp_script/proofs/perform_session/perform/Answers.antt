@@ -20,8 +20,9 @@ use Rattle.command_session.specs.LinesLeft.{LinesLeft}
 use Rattle.nova_machine.proofs.LineSteps.{first-same, first-through}
 use Rattle.command_session.proofs.PortLemmas.{left-same, left-then}
 use Rattle.command_session.specs.Live.{CommandState, beyond}
-use Rattle.scp_script.specs.Loop.{AreKept, session_of}
-use Rattle.scp_script.proofs.WholeLemmas.{ComesSoFar, begun, never-begun, further, over, kept-none, kept-both, causes-behind, kept-since}
+use Rattle.scp_script.specs.Loop.{AreKeptFor, session_of}
+use Rattle.scp_script.proofs.WholeLemmas.{ComesSoFar, begun, never-begun, further, over, causes-behind, kept-since}
+use Rattle.scp_script.proofs.KeptLemmas.{kept-none, kept-both}
 use Rattle.scp_script.proofs.UsedLemmas.{next-told, grown}
 use Rattle.scp_script.proofs.SpendingLemmas.{begins-so, goes-so, ends-so}
 use Rattle.scp_script.proofs.perform_session.perform.Goals as goal
@@ -51,7 +52,7 @@ lines-init g c =
       lines = left-same g.L.Lines.tells (g.L.Lines.state c.args.lines.now) c.args.session.now.machine.lines;
       source = refl;
       sink = refl;
-      keeps = kept-none c.args.session.now.notes (g.F.Files.state c.args.files.now);
+      keeps = kept-none _ _ c.args.session.now.notes (g.F.Files.state c.args.files.now);
       whose = unused c.args.session.now.machine.slots c.args.session.now.machine.slots c.args.session.now.notes c.args.session.now.notes (g.F.Files.state c.args.files.now) refl refl;
       standard = c.requires.standard;
       is_open = c.requires.«open»;
@@ -109,9 +110,13 @@ lines-preserved g c =
           c.lines.invariant.lines c.in-GoesOn.ensures.ports);
       source = c.in-GoesOn.ensures.cause.1 ∙ c.lines.invariant.source;
       sink = c.in-GoesOn.ensures.cause.0 ∙ c.lines.invariant.sink;
-      keeps = subst (λ (kept : List FaultNote). AreKept c.args.session.now.notes kept (g.F.Files.state c.args.files.now) new) (sym notes_are)
-          (kept-both c.args.session.now.notes c.lines.session.notes done.notes (g.F.Files.state c.args.files.now) (g.F.Files.state c.lines.files) new
-          c.lines.invariant.keeps c.in-GoesOn.ensures.keeps);
+      keeps =
+          let budget = c.args.opening.now.budget in
+          let before = c.lines.texts.budget in
+          let left = c.next_line.new.lines.budget in
+          subst (λ (kept : List FaultNote). AreKeptFor g.F.Files.tells (budget - left) c.args.session.now.notes kept (g.F.Files.state c.args.files.now) new) (sym notes_are)
+          (kept-both g.F.Files.tells (budget - before) (before - left) (budget - left) c.args.session.now.notes c.lines.session.notes done.notes (g.F.Files.state c.args.files.now)
+          (g.F.Files.state c.lines.files) new (omega (arith, c.lines.invariant.paid, c.in-GoesOn.ensures.pays)) c.lines.invariant.keeps c.in-GoesOn.ensures.keeps);
       whose =
           let first = c.args.session.now in
           let mid = c.lines.session in
@@ -194,8 +199,22 @@ returns-in-IsOver-clause-unread g c = λ off. c.in-IsOver.ensures.unread (c.line
 
 pub returns-in-IsOver-clause-keeps : goal.returns-in-IsOver-clause-keeps
 returns-in-IsOver-clause-keeps g c =
-    kept-both c.args.session.now.notes c.lines.session.notes c.next_line.new.session.notes (g.F.Files.state c.args.files.now) (g.F.Files.state c.lines.files)
-    (g.F.Files.state c.next_line.new.files) c.lines.invariant.keeps c.in-IsOver.ensures.keeps
+    let budget = c.args.opening.now.budget in
+    let before = c.lines.texts.budget in
+    let left = c.next_line.new.lines.budget in
+    let paid = c.lines.invariant.paid in
+    let pays = c.in-IsOver.ensures.pays in
+    record {
+      spent = budget - left;
+      within = omega arith;
+      number_is = omega (arith, c.lines.invariant.command, paid, c.in-IsOver.ensures.command, pays);
+      kept = kept-both g.F.Files.tells (budget - before) (before - left) (budget - left) c.args.session.now.notes c.lines.session.notes c.next_line.new.session.notes (g.F.Files.state c.args.files.now)
+          (g.F.Files.state c.lines.files) (g.F.Files.state c.next_line.new.files) (omega (arith, paid, pays)) c.lines.invariant.keeps c.in-IsOver.ensures.keeps;
+    }
+
+pub returns-in_default-clause-keeps : goal.returns-in_default-clause-keeps
+returns-in_default-clause-keeps g c =
+    record { spent = 0; within = omega arith; number_is = omega arith; kept = kept-none _ _ c.args.session.now.notes (g.F.Files.state c.args.files.now) }
 
 pub returns-in-IsOver-clause-whose : goal.returns-in-IsOver-clause-whose
 returns-in-IsOver-clause-whose g c =
@@ -207,7 +226,7 @@ returns-in-IsOver-clause-whose g c =
 
 pub returns-in-IsOver-clause-kept : goal.returns-in-IsOver-clause-kept
 returns-in-IsOver-clause-kept g c =
-    kept-since c.in-IsOver.finish c.next_line.new.session.machine.slots c.args.session.now.notes c.lines.session.notes c.next_line.new.session.notes (g.F.Files.state c.args.files.now)
+    kept-since c.in-IsOver.finish c.next_line.new.session.machine.slots _ _ c.args.session.now.notes c.lines.session.notes c.next_line.new.session.notes (g.F.Files.state c.args.files.now)
     (g.F.Files.state c.lines.files) (g.F.Files.state c.next_line.new.files) c.lines.invariant.keeps c.in-IsOver.ensures.kept
 
 pub returns-in_default-clause-told : goal.returns-in_default-clause-told

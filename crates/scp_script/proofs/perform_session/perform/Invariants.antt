@@ -12,7 +12,7 @@ use Rattle.command_session.specs.Live.{beyond}
 use Rattle.command_session.specs.LinesLeft.{LinesLeft}
 use Rattle.scp_script.specs.Session.{spent_more}
 use Rattle.scp_script.specs.Perform.{beginning}
-use Rattle.scp_script.specs.Loop.{AreKept, NumbersSuffice, session_of}
+use Rattle.scp_script.specs.Loop.{AreKeptFor, NumbersSuffice, session_of}
 use Rattle.scp_script.specs.Used.{CourseTold}
 use Rattle.session_texts.specs.Scripts.{first_script}
 use Rattle.scp_script.specs.Spending.{CanCome}
@@ -40,7 +40,7 @@ invariant-lines g l = record {
   lines : LinesLeft g.L.Lines.tells (g.L.Lines.state l.fn.lines) l.fn.session.machine.lines (g.L.Lines.state l.lines) l.session.machine.lines;
   source : g.C.Source.fault_count l.input ≡ g.C.Source.fault_count l.fn.input;
   sink : g.S.Sink.fault_count l.out ≡ g.S.Sink.fault_count l.fn.out;
-  keeps : AreKept l.fn.session.notes l.session.notes (g.F.Files.state l.fn.files) (g.F.Files.state l.files);
+  keeps : AreKeptFor g.F.Files.tells (l.fn.opening.budget - l.texts.budget) l.fn.session.notes l.session.notes (g.F.Files.state l.fn.files) (g.F.Files.state l.files);
   whose : AreOwn l.fn.session.machine.slots l.session.machine.slots l.fn.session.notes l.session.notes (g.F.Files.state l.fn.files) (g.F.Files.state l.files);
   standard : AreStandard l.session.machine.units;
   is_open : AllOpen l.session.machine.slots (g.F.Files.state l.files).opened;
