@@ -27,12 +27,15 @@ pub record Reaches (words : List (List ℕ)) (input : List ℕ) (old : Beyond) (
   pub starts : start_of (options_of words) words old.files notes ≡ (Begins options keys script, used)
   pub comes : ComesTo count (opening words options keys script old.files (ahead_of old.lines.told old.whole) input (drop used notes)) front at
 
--- The program's session came to a text in which something beside the disk has changed the disk's file: all up to there was
--- printed and read, and nothing is said of what came behind that.
+-- The program's session came to a text in which something beside the disk has changed the disk's file, with the first of the
+-- notes that were kept: all up to there was printed and read, and nothing is said of what came behind that.
 pub record SaysNoMore (words : List (List ℕ)) (input left before after : List ℕ) (old : Beyond) (notes : List Note) : Type 0 where
+  pub own : List Note
+  pub later : List Note
+  pub kept : notes ≡ own ++ later
   pub front : List (Observation State)
   pub at : Session
-  pub reaches : Reaches words input old notes front at
+  pub reaches : Reaches words input old own front at
   pub state : State
   pub last : (step at).next ≡ Over NothingSaid state
   pub more : List ℕ

@@ -57,27 +57,9 @@ pub record RunsShort (start : Session) (live : Live) (left : List ℕ) (before a
   pub rest : left ≡ drop (reads_of done + made) start.input
   pub short : StopsShort reached live mid after
 
--- A session that came in so many texts, and one more, to where something beside the disk had changed the disk's file: all up
--- to there was printed and read, and nothing is said of what came behind that.
-pub record SaysNoMore (start : Session) (left : List ℕ) (before after : Output) : Type 0 where
-  pub count : ℕ
-  pub done : List (Observation State)
-  pub reached : Session
-  pub comes : ComesTo count start done reached
-  pub state : State
-  pub last : (step reached).next ≡ Over NothingSaid state
-  pub more : List ℕ
-  pub written : after.console ≡ before.console ++ (text_of (done ++ (step reached).made) ++ more)
-  pub made : ℕ
-  pub rest : left ≡ drop (reads_of (done ++ (step reached).made) + made) start.input
-
--- it is said of all of it
-abbrev pub IsPerformedWhole : Session → Finish → Live → List ℕ → Output → Output → Type 0
-IsPerformedWhole start OutOfMemory live left before after = RunsShort start live left before after
-IsPerformedWhole start finish live left before after = IsSession start finish live left before after
-
 abbrev pub IsPerformed : Session → Finish → Live → List ℕ → Output → Output → Type 0
-IsPerformed start finish live left before after = SaysNoMore start left before after ⊎ IsPerformedWhole start finish live left before after
+IsPerformed start OutOfMemory live left before after = RunsShort start live left before after
+IsPerformed start finish live left before after = IsSession start finish live left before after
 
 -- The session with exactly the notes that were kept.
 pub record Performed (start : List Note → Session) (finish : Finish) (live : Live) (left : List ℕ) (before after : Output) (notes notes' : List Note) : Type 0 where
@@ -85,3 +67,20 @@ pub record Performed (start : List Note → Session) (finish : Finish) (live : L
   pub kept : notes' ≡ notes ++ own
   pub first : MayFollow (start []).spent (start []).live own
   pub is : IsPerformed (start own) finish live left before after
+
+-- A session that came in so many texts, and one more, to where something beside the disk had changed the disk's file, with the
+-- first of the notes that were kept: all up to there was printed and read, and nothing is said of what came behind that.
+pub record SaysNoMore (start : List Note → Session) (left : List ℕ) (before after : Output) (notes notes' : List Note) : Type 0 where
+  pub own : List Note
+  pub later : List Note
+  pub kept : notes' ≡ notes ++ (own ++ later)
+  pub count : ℕ
+  pub done : List (Observation State)
+  pub reached : Session
+  pub comes : ComesTo count (start own) done reached
+  pub state : State
+  pub last : (step reached).next ≡ Over NothingSaid state
+  pub more : List ℕ
+  pub written : after.console ≡ before.console ++ (text_of (done ++ (step reached).made) ++ more)
+  pub made : ℕ
+  pub rest : left ≡ drop (reads_of (done ++ (step reached).made) + made) (start []).input

@@ -32,11 +32,16 @@ invariant-lines g l = record {
       → CourseTold g.F.Files.tells g.L.Lines.tells
       (λ whole notes. beginning l.fn.session (beyond (g.F.Files.state l.fn.files).files (g.L.Lines.state l.fn.lines) whole) l.fn.opening (g.C.Source.left l.fn.input) notes)
       → (IsTrue g.L.Lines.tells → AreApart (g.L.Lines.state l.fn.lines) l.fn.session.machine.lines) → IsTrue g.S.Sink.tells
-      → (whole : List Answer) → IsFirst (record_in (g.L.Lines.state l.lines).told) whole → ComesSoFar
+      → InStep (attached_files l.fn.session.machine) (g.F.Files.state l.fn.files).files
+      → (whole : List Answer) → IsFirst (record_in (g.L.Lines.state l.lines).told) whole → SaysNoMore
+      (λ notes. beginning l.fn.session (beyond (g.F.Files.state l.fn.files).files (g.L.Lines.state l.fn.lines) whole) l.fn.opening (g.C.Source.left l.fn.input) notes)
+      (g.C.Source.left l.input)
+      (output (g.S.Sink.written l.fn.out) (g.L.Lines.state l.fn.lines).sent) (output (g.S.Sink.written l.out) (g.L.Lines.state l.lines).sent)
+      (notes_said l.fn.session.notes) (notes_said l.session.notes) ⊎ (ComesSoFar
       (λ notes. beginning l.fn.session (beyond (g.F.Files.state l.fn.files).files (g.L.Lines.state l.fn.lines) whole) l.fn.opening (g.C.Source.left l.fn.input) notes)
       (session_of l.session (beyond (g.F.Files.state l.files).files (g.L.Lines.state l.lines) whole) l.texts (g.C.Source.left l.input))
       (output (g.S.Sink.written l.fn.out) (g.L.Lines.state l.fn.lines).sent) (output (g.S.Sink.written l.out) (g.L.Lines.state l.lines).sent)
-      (notes_said l.fn.session.notes) (notes_said l.session.notes);
+      (notes_said l.fn.session.notes) (notes_said l.session.notes) × InStep (attached_files l.session.machine) (g.F.Files.state l.files).files);
   lines : LinesLeft g.L.Lines.tells (g.L.Lines.state l.fn.lines) l.fn.session.machine.lines (g.L.Lines.state l.lines) l.session.machine.lines;
   source : g.C.Source.fault_count l.input ≡ g.C.Source.fault_count l.fn.input;
   sink : g.S.Sink.fault_count l.out ≡ g.S.Sink.fault_count l.fn.out;
