@@ -8,6 +8,7 @@ pub mod LineLemmas
 pub mod NoteLemmas
 pub mod KeptLemmas
 pub mod WholeLemmas
+pub mod UnsaidLemmas
 pub mod ActionLemmas
 pub mod UsedLemmas
 pub mod SpendingLemmas

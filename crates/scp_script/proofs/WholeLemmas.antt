@@ -23,7 +23,8 @@ use Rattle.scp_script.specs.declared.progress.Finish.{Finish}
 use Rattle.scp_script.specs.declared.progress.Finish.TheVariants.{Exit, EndOfInput, FlushFailed, Commands, Console, Input, OutOfMemory}
 use Rattle.session_texts.specs.Lines.{reads_left}
 use Rattle.session_texts.specs.Reading.{AreRead}
-use Rattle.scp_script.specs.Session.{upcoming, flushes_next, State, Session, step, Going, rested, after_step, course, trace, ComesTo}
+use Rattle.command_session.specs.DiskFile.{disk_alone}
+use Rattle.scp_script.specs.Session.{upcoming, flushes_next, State, Session, step, Going, going_on, rested, after_step, course, trace, ComesTo}
 use Rattle.scp_script.specs.Loop.{status_of, finish_of, Finishes, FinishCause, GoesPast, LetsThrough, RunsOut, MayFollow, Progresses, Stepped, AreKept, KeptCause}
 use Rattle.scp_script.specs.Perform.{IsSession, RunsShort, IsPerformed, Performed}
 use Rattle.scp_script.proofs.SessionLemmas.{course-going}
@@ -67,26 +68,29 @@ reached-none start before = record {
   reads = record { rest = refl; count = sym (zero-add (reads_left start.open_ start.input)) };
 }
 
-reads-behind : (m n : ℕ) (o1 o2 o3 : Bool) (i1 i2 i3 : List ℕ) → AreRead m o1 i1 o2 i2 → AreRead n o2 i2 o3 i3 → AreRead (m + n) o1 i1 o3 i3
-reads-behind m n o1 o2 o3 i1 i2 i3 a b = record {
+pub reads-behind : (m n : ℕ) (o1 o2 o3 : Bool) (i1 i2 i3 : List ℕ) → AreRead m o1 i1 o2 i2 → AreRead n o2 i2 o3 i3 → AreRead (m + n) o1 i1 o3 i3
+pub reads-behind m n o1 o2 o3 i1 i2 i3 a b = record {
   rest = b.rest ∙ ap (drop n) a.rest ∙ drop-drop n m i1;
   count = omega (arith, a.count, b.count);
 }
 
-pub reached-more : (start now next : Session) (before mid after : Output) → Reached start now before mid → GoesPast now next mid after → Reached start (rested next) before after
-reached-more start now next before mid after r g = record {
-  count = suc r.count;
-  done = r.done ++ (step now).made;
-  comes = comes-more r.count start now (rested next) r.done r.comes g.next;
-  so_far = r.so_far ∙ ap (λ c. after_step r.done (Going now) (λ _. c)) (course-going now (rested next) g.next)
-      ∙ ap (λ t. record { trace = t; end = (course (rested next)).end }) (sym (after_made-append r.done (step now).made (course (rested next)).trace));
-  written = g.written ∙ ap (λ t. t ++ text_of (step now).made) r.written ∙ append_assoc before.console (text_of r.done) (text_of (step now).made)
-      ∙ ap (λ t. before.console ++ t) (sym (text_of-append r.done (step now).made));
-  heard = g.heard ∙ ap (λ h. heard_with h (sent_of (step now).made)) r.heard ∙ heard-behind before.heard (sent_of r.done) (sent_of (step now).made)
-      ∙ ap (heard_with before.heard) (sym (sent_of-append r.done (step now).made));
-  reads = subst (λ n. AreRead n start.open_ start.input next.open_ next.input) (sym (reads_of-append r.done (step now).made))
-      (reads-behind (reads_of r.done) (reads_of (step now).made) start.open_ now.open_ next.open_ start.input now.input next.input r.reads g.reads);
-}
+pub reached-more : (start now next : Session) (before mid after : Output) → disk_alone now.live next.live ≡ true → Reached start now before mid → GoesPast now next mid after
+    → Reached start (rested next) before after
+reached-more start now next before mid after alone r g =
+    let goes : (step now).next ≡ Going (rested next) = g.next ∙ ap (λ b. going_on b (rested next)) alone in
+    record {
+      count = suc r.count;
+      done = r.done ++ (step now).made;
+      comes = comes-more r.count start now (rested next) r.done r.comes goes;
+      so_far = r.so_far ∙ ap (λ c. after_step r.done (Going now) (λ _. c)) (course-going now (rested next) goes)
+          ∙ ap (λ t. record { trace = t; end = (course (rested next)).end }) (sym (after_made-append r.done (step now).made (course (rested next)).trace));
+      written = g.written ∙ ap (λ t. t ++ text_of (step now).made) r.written ∙ append_assoc before.console (text_of r.done) (text_of (step now).made)
+          ∙ ap (λ t. before.console ++ t) (sym (text_of-append r.done (step now).made));
+      heard = g.heard ∙ ap (λ h. heard_with h (sent_of (step now).made)) r.heard ∙ heard-behind before.heard (sent_of r.done) (sent_of (step now).made)
+          ∙ ap (heard_with before.heard) (sym (sent_of-append r.done (step now).made));
+      reads = subst (λ n. AreRead n start.open_ start.input next.open_ next.input) (sym (reads_of-append r.done (step now).made))
+          (reads-behind (reads_of r.done) (reads_of (step now).made) start.open_ now.open_ next.open_ start.input now.input next.input r.reads g.reads);
+    }
 
 -- the trace of a session that came to another
 trace-behind : (start now : Session) (done : List (Observation State)) → course start ≡ after_step done (Going now) course → trace start ≡ after_made done (trace now)
@@ -188,9 +192,9 @@ late-rested live watch (n ∷ notes) (late, more) = (
 follow-rested : (number : ℕ) (live : Live) (watch : WatchState) (notes : List Note) → MayFollow number (record live { watch = watch }) notes → MayFollow number live notes
 follow-rested number live watch notes f = record { behind = f.behind; later = f.later; are = f.are; closings = late-rested live watch f.behind f.closings; follows = f.follows }
 
-pub further : (start now next : List Note → Session) (before mid after : Output) (notes notes' notes'' : List Note) → ComesSoFar start now before mid notes notes'
-    → Stepped now GoesOn next mid after notes' notes'' → ComesSoFar start (λ n. rested (next n)) before after notes notes''
-further start now next before mid after notes notes' notes'' s st =
+pub further : (start now next : List Note → Session) (before mid after : Output) (notes notes' notes'' : List Note) → ((more more' : List Note) → disk_alone (now more).live (next more').live ≡ true)
+    → ComesSoFar start now before mid notes notes' → Stepped now GoesOn next mid after notes' notes'' → ComesSoFar start (λ n. rested (next n)) before after notes notes''
+further start now next before mid after notes notes' notes'' alone s st =
     let follows : (more : List Note) → MayFollow (next []).spent (rested (next [])).live more → MayFollow (next []).spent (next []).live more =
     λ more follow. follow-rested (next []).spent (next []).live (rested (next [])).live.watch more follow in
     record {
@@ -199,7 +203,7 @@ further start now next before mid after notes notes' notes'' s st =
       first = λ more follow. subst (λ l. MayFollow (start []).spent (start []).live l) (sym (append_assoc s.own st.own more))
           (s.first (st.own ++ more) (st.first more (follows more follow)));
       comes = λ more follow. subst (λ l. Reached (start l) (rested (next more)) before after) (sym (append_assoc s.own st.own more))
-          (reached-more (start (s.own ++ (st.own ++ more))) (now (st.own ++ more)) (next more) before mid after
+          (reached-more (start (s.own ++ (st.own ++ more))) (now (st.own ++ more)) (next more) before mid after (alone (st.own ++ more) more)
           (s.comes (st.own ++ more) (st.first more (follows more follow))) (st.goes more (follows more follow)));
     }
 

@@ -1,5 +1,6 @@
 -- What a whole session comes to, from its opening on.
-use Rattle.std.specs.Prelude.{◌≡◌, ℕ, ◌≤◌, Bool, true, List, [], ◌++◌, ◌+◌, drop}
+use Rattle.std.specs.Prelude.{◌≡◌, ℕ, ◌≤◌, Bool, true, IsTrue, List, [], ◌++◌, ◌+◌, drop}
+use Rattle.host_lines.specs.Traffic.{Answer as LineAnswer}
 use Rattle.file_commands.specs.Notes.{Note}
 use Rattle.command_session.specs.Live.{Live, CommandState, Beyond, live_in}
 use Rattle.nova_machine.specs.Comes.{Output}
@@ -10,7 +11,7 @@ use Rattle.scp_script.specs.declared.progress.Finish.TheVariants.{OutOfMemory}
 use Rattle.session_texts.specs.Lines.{reads_left}
 use Rattle.session_texts.specs.Scripts.{Script, first_script}
 use Rattle.session_texts.specs.Actions.{texts_of}
-use Rattle.scp_script.specs.Session.{State, Session, asking, course, trace, ComesTo}
+use Rattle.scp_script.specs.Session.{State, Session, NothingSaid, Over, asking, step, course, trace, ComesTo}
 use Rattle.scp_script.specs.Loop.{EndsAs, LetsThrough, NamesEnd, status_of, StopsShort, MayFollow}
 use Rattle.observations.specs.Observations.{Observation, text_of, reads_of, sent_of}
 
@@ -67,3 +68,26 @@ pub record Performed (start : List Note → Session) (finish : Finish) (live : L
   pub kept : notes' ≡ notes ++ own
   pub first : MayFollow (start []).spent (start []).live own
   pub is : IsPerformed (start own) finish live left before after
+
+-- A session that came in so many texts, and one more, to where something beside the disk had changed the disk's file, with the
+-- first of the notes that were kept: all up to there was printed and read, and nothing is said of what came behind that.
+pub record SaysUpTo (start : List Note → Session) (left : List ℕ) (before after : Output) (notes notes' : List Note) : Type 0 where
+  pub own : List Note
+  pub later : List Note
+  pub kept : notes' ≡ notes ++ (own ++ later)
+  pub count : ℕ
+  pub done : List (Observation State)
+  pub reached : Session
+  pub comes : ComesTo count (start own) done reached
+  pub state : State
+  pub last : (step reached).next ≡ Over NothingSaid state
+  pub more : List ℕ
+  pub written : after.console ≡ before.console ++ (text_of (done ++ (step reached).made) ++ more)
+  pub made : ℕ
+  pub rest : left ≡ drop (reads_of (done ++ (step reached).made) + made) (start own).input
+
+-- The same of what lines record in the end; and where they tell nothing, of what they recorded up to there.
+pub record SaysNoMore (start : List LineAnswer → List Note → Session) (tells : Bool) (whole : List LineAnswer) (left : List ℕ) (before after : Output) (notes notes' : List Note) : Type 0 where
+  pub recorded : List LineAnswer
+  pub same : IsTrue tells → recorded ≡ whole
+  pub says : SaysUpTo (start recorded) left before after notes notes'

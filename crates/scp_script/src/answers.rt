@@ -11,7 +11,10 @@ ghost use Rattle.state_transfer.specs.SavedValid.{AreStandard};
 ghost use Rattle.command_session.specs.Live.{live_in, standing, Beyond, beyond};
 ghost use Rattle.command_session.specs.LinesLeft.{LinesLeft};
 ghost use Rattle.command_session.specs.Asked.{Asked, asked};
-ghost use Rattle.command_session.specs.Doing.{IsExitAnswer};
+ghost use Rattle.nova_machine.specs.Machine.{attached_files};
+ghost use Rattle.unit_files.specs.InStep.{InStep};
+ghost use Rattle.command_session.specs.DiskFile.{StaysWhereAlone};
+ghost use Rattle.command_session.specs.Doing.{Grows, IsExitAnswer};
 ghost use Rattle.command_session.specs.FaultText.{fault_text};
 ghost use Rattle.command_session.specs.declared.fault.CommandFault.TheVariants.{TooDeep};
 ghost use Rattle.scp_script.specs.declared.progress.Progress.TheVariants.{IsOver};
@@ -51,6 +54,7 @@ pub fn answer<U: Unit, F: Files, L: Lines, S: Sink>(
     requires open { AllOpen session.old.machine.slots (F.state files.old).opened }
     ensures told { TextTold F.tells L.tells session.old.machine texts.old.scripts (asked line.now)
         → (IsTrue L.tells → AreApart (L.state lines.old) session.old.machine.lines)
+        → InStep (attached_files session.old.machine) (F.state files.old).files
         → (whole : List LineAnswer) → IsFirst (record_in (L.state lines.new).told) whole
         → Answers session.old.limit (live_in session.old (beyond (F.state files.old).files (L.state lines.old) whole))
         (coming texts.old) (asked line.now) session.old.command result
@@ -59,7 +63,12 @@ pub fn answer<U: Unit, F: Files, L: Lines, S: Sink>(
         (notes_said session.old.notes) (notes_said session.new.notes) }
     ensures still { TextTold F.tells L.tells session.old.machine texts.old.scripts (asked line.now)
         → (IsTrue L.tells → ⊥) → L.state lines.new ≡ L.state lines.old }
+    ensures step { TextTold F.tells L.tells session.old.machine texts.old.scripts (asked line.now)
+        → (IsTrue L.tells → AreApart (L.state lines.old) session.old.machine.lines)
+        → StaysWhereAlone session.old session.new (F.state files.old).files (F.state files.new).files }
+    ensures grows { Grows S.tells (S.written out.old) (S.written out.new) }
     ensures short { TextTold F.tells L.tells session.old.machine texts.old.scripts (asked line.now)
+        → InStep (attached_files session.old.machine) (F.state files.old).files
         → (whole : List LineAnswer) (own : List Note)
         → notes_said session.new.notes ≡ notes_said session.old.notes ++ own
         → IsShort (asked line.now) session.old.command result
@@ -106,6 +115,7 @@ fn obey<U: Unit, F: Files, L: Lines, S: Sink>(
     requires open { AllOpen session.old.machine.slots (F.state files.old).opened }
     ensures told { TextTold F.tells L.tells session.old.machine texts.old.scripts (Ok command.now)
         → (IsTrue L.tells → AreApart (L.state lines.old) session.old.machine.lines)
+        → InStep (attached_files session.old.machine) (F.state files.old).files
         → (whole : List LineAnswer) → IsFirst (record_in (L.state lines.new).told) whole
         → Answers session.old.limit (live_in session.old (beyond (F.state files.old).files (L.state lines.old) whole))
         (coming texts.old) (Ok command.now) session.old.command result
@@ -114,7 +124,12 @@ fn obey<U: Unit, F: Files, L: Lines, S: Sink>(
         (notes_said session.old.notes) (notes_said session.new.notes) }
     ensures still { TextTold F.tells L.tells session.old.machine texts.old.scripts (Ok command.now)
         → (IsTrue L.tells → ⊥) → L.state lines.new ≡ L.state lines.old }
+    ensures step { TextTold F.tells L.tells session.old.machine texts.old.scripts (Ok command.now)
+        → (IsTrue L.tells → AreApart (L.state lines.old) session.old.machine.lines)
+        → StaysWhereAlone session.old session.new (F.state files.old).files (F.state files.new).files }
+    ensures grows { Grows S.tells (S.written out.old) (S.written out.new) }
     ensures short { TextTold F.tells L.tells session.old.machine texts.old.scripts (Ok command.now)
+        → InStep (attached_files session.old.machine) (F.state files.old).files
         → (whole : List LineAnswer) (own : List Note)
         → notes_said session.new.notes ≡ notes_said session.old.notes ++ own
         → IsShort (Ok command.now) session.old.command result

@@ -10,7 +10,11 @@ ghost use Rattle.host_lines.specs.Told.{IsFirst, record_in};
 ghost use Rattle.telnet_lines.specs.Many.{AreApart};
 ghost use Rattle.nova_machine.specs.Comes.{output};
 ghost use Rattle.state_transfer.specs.SavedValid.{AreStandard};
+ghost use Rattle.nova_machine.specs.Machine.{attached_files};
+ghost use Rattle.unit_files.specs.InStep.{InStep};
 ghost use Rattle.command_session.specs.Live.{beyond};
+ghost use Rattle.command_session.specs.DiskFile.{StaysWhereAlone};
+ghost use Rattle.command_session.specs.Doing.{Grows};
 ghost use Rattle.command_session.specs.LinesLeft.{LinesLeft};
 ghost use Rattle.session_texts.specs.Reading.{IsReading, Pays};
 ghost use Rattle.session_texts.specs.Scripts.{cost_of_line, still_open};
@@ -48,6 +52,7 @@ pub fn next_line<U: Unit, C: Source, F: Files, L: Lines, S: Sink>(
     requires open { AllOpen session.old.machine.slots (F.state files.old).opened }
     ensures told { NumbersSuffice session.old.command lines.old.budget → (lines.old.reads ≡ true → IsTrue C.tells)
         → (IsTrue L.tells → AreApart (L.state ports.old) session.old.machine.lines) → IsTrue S.tells
+        → InStep (attached_files session.old.machine) (F.state files.old).files
         → (whole : List LineAnswer) → IsFirst (record_in (L.state ports.new).told) whole
         → NextTold F.tells L.tells (session_of session.old
         (beyond (F.state files.old).files (L.state ports.old) whole) lines.old (C.left input.old) []) → Stepped
@@ -61,6 +66,11 @@ pub fn next_line<U: Unit, C: Source, F: Files, L: Lines, S: Sink>(
         → NextTold F.tells L.tells (session_of session.old
         (beyond (F.state files.old).files (L.state ports.old) whole) lines.old (C.left input.old) [])
         → L.state ports.new ≡ L.state ports.old }
+    ensures step { (lines.old.reads ≡ true → IsTrue C.tells) → (IsTrue L.tells → AreApart (L.state ports.old) session.old.machine.lines) → (whole : List LineAnswer)
+        → NextTold F.tells L.tells (session_of session.old
+        (beyond (F.state files.old).files (L.state ports.old) whole) lines.old (C.left input.old) [])
+        → StaysWhereAlone session.old session.new (F.state files.old).files (F.state files.new).files }
+    ensures grows { Grows S.tells (S.written out.old) (S.written out.new) }
     ensures ports { LinesLeft L.tells (L.state ports.old) session.old.machine.lines (L.state ports.new)
         session.new.machine.lines }
     ensures cause { ProgressCause result (S.fault_count out.old) (S.fault_count out.new) (C.fault_count input.old)
@@ -113,6 +123,7 @@ fn action<U: Unit, F: Files, L: Lines, S: Sink>(
     requires open { AllOpen session.old.machine.slots (F.state files.old).opened }
     ensures told { NumbersSuffice session.old.command lines.old.budget
         → (IsTrue L.tells → AreApart (L.state ports.old) session.old.machine.lines) → IsTrue S.tells
+        → InStep (attached_files session.old.machine) (F.state files.old).files
         → (whole : List LineAnswer) → IsFirst (record_in (L.state ports.new).told) whole → (input : List ℕ)
         → NextTold F.tells L.tells (session_of session.old
         (beyond (F.state files.old).files (L.state ports.old) whole) lines.old input []) → Stepped
@@ -124,6 +135,11 @@ fn action<U: Unit, F: Files, L: Lines, S: Sink>(
         → NextTold F.tells L.tells (session_of session.old
         (beyond (F.state files.old).files (L.state ports.old) whole) lines.old input [])
         → L.state ports.new ≡ L.state ports.old }
+    ensures step { (IsTrue L.tells → AreApart (L.state ports.old) session.old.machine.lines) → (whole : List LineAnswer) (input : List ℕ)
+        → NextTold F.tells L.tells (session_of session.old
+        (beyond (F.state files.old).files (L.state ports.old) whole) lines.old input [])
+        → StaysWhereAlone session.old session.new (F.state files.old).files (F.state files.new).files }
+    ensures grows { Grows S.tells (S.written out.old) (S.written out.new) }
     ensures ports { LinesLeft L.tells (L.state ports.old) session.old.machine.lines (L.state ports.new)
         session.new.machine.lines }
     ensures cause { (source : ℕ) → ProgressCause result (S.fault_count out.old) (S.fault_count out.new) source source }
@@ -185,6 +201,7 @@ fn input_line<U: Unit, C: Source, F: Files, L: Lines, S: Sink>(
     requires open { AllOpen session.old.machine.slots (F.state files.old).opened }
     ensures told { NumbersSuffice session.old.command lines.old.budget → IsTrue C.tells
         → (IsTrue L.tells → AreApart (L.state ports.old) session.old.machine.lines) → IsTrue S.tells
+        → InStep (attached_files session.old.machine) (F.state files.old).files
         → (whole : List LineAnswer) → IsFirst (record_in (L.state ports.new).told) whole
         → NextTold F.tells L.tells (session_of session.old
         (beyond (F.state files.old).files (L.state ports.old) whole) lines.old (C.left input.old) []) → Stepped
@@ -198,6 +215,11 @@ fn input_line<U: Unit, C: Source, F: Files, L: Lines, S: Sink>(
         → NextTold F.tells L.tells (session_of session.old
         (beyond (F.state files.old).files (L.state ports.old) whole) lines.old (C.left input.old) [])
         → L.state ports.new ≡ L.state ports.old }
+    ensures step { IsTrue C.tells → (IsTrue L.tells → AreApart (L.state ports.old) session.old.machine.lines) → (whole : List LineAnswer)
+        → NextTold F.tells L.tells (session_of session.old
+        (beyond (F.state files.old).files (L.state ports.old) whole) lines.old (C.left input.old) [])
+        → StaysWhereAlone session.old session.new (F.state files.old).files (F.state files.new).files }
+    ensures grows { Grows S.tells (S.written out.old) (S.written out.new) }
     ensures ports { LinesLeft L.tells (L.state ports.old) session.old.machine.lines (L.state ports.new)
         session.new.machine.lines }
     ensures cause { ProgressCause result (S.fault_count out.old) (S.fault_count out.new) (C.fault_count input.old)
@@ -266,6 +288,7 @@ fn script_line<U: Unit, F: Files, L: Lines, S: Sink>(
     requires open { AllOpen session.old.machine.slots (F.state files.old).opened }
     ensures told { NumbersSuffice session.old.command lines.old.budget
         → (IsTrue L.tells → AreApart (L.state ports.old) session.old.machine.lines) → IsTrue S.tells
+        → InStep (attached_files session.old.machine) (F.state files.old).files
         → (whole : List LineAnswer) → IsFirst (record_in (L.state ports.new).told) whole → (input : List ℕ)
         → NextTold F.tells L.tells (session_of session.old
         (beyond (F.state files.old).files (L.state ports.old) whole)
@@ -282,6 +305,12 @@ fn script_line<U: Unit, F: Files, L: Lines, S: Sink>(
         (beyond (F.state files.old).files (L.state ports.old) whole)
         (record lines.old { texts = record lines.old.texts { scripts = script ∷ lines.old.texts.scripts } }) input [])
         → L.state ports.new ≡ L.state ports.old }
+    ensures step { (IsTrue L.tells → AreApart (L.state ports.old) session.old.machine.lines) → (whole : List LineAnswer) (input : List ℕ)
+        → NextTold F.tells L.tells (session_of session.old
+        (beyond (F.state files.old).files (L.state ports.old) whole)
+        (record lines.old { texts = record lines.old.texts { scripts = script ∷ lines.old.texts.scripts } }) input [])
+        → StaysWhereAlone session.old session.new (F.state files.old).files (F.state files.new).files }
+    ensures grows { Grows S.tells (S.written out.old) (S.written out.new) }
     ensures ports { LinesLeft L.tells (L.state ports.old) session.old.machine.lines (L.state ports.new)
         session.new.machine.lines }
     ensures cause { (source : ℕ) → ProgressCause result (S.fault_count out.old) (S.fault_count out.new) source source }

@@ -1,4 +1,4 @@
-ghost use Rattle.std.specs.Prelude.{◌≡◌, [], true, false, List, map, take, string_bytes, IsTrue, IfOk};
+ghost use Rattle.std.specs.Prelude.{◌≡◌, ◌⊎◌, [], true, false, List, map, take, string_bytes, IsTrue, IfOk};
 ghost use Rattle.file_traits.specs.State.{Opened};
 ghost use Rattle.unit_files.specs.Open.{AllOpen, Around};
 ghost use Rattle.expect_actions.specs.Watch.{forgotten};
@@ -13,7 +13,9 @@ ghost use Rattle.command_session.specs.Live.{live_in, beyond};
 ghost use Rattle.command_session.specs.LinesLeft.{LinesLeft};
 ghost use Rattle.scp_script.specs.Loop.{NumbersSuffice, FinishCause, SessionKept, KeptCause};
 ghost use Rattle.session_texts.specs.Scripts.{first_script, AreFiles};
-ghost use Rattle.scp_script.specs.Perform.{beginning, Performed};
+ghost use Rattle.nova_machine.specs.Machine.{attached_files};
+ghost use Rattle.unit_files.specs.InStep.{InStep};
+ghost use Rattle.scp_script.specs.Perform.{beginning, Performed, SaysNoMore};
 ghost use Rattle.scp_script.specs.Spending.{Spends};
 ghost use Rattle.scp_script.specs.Used.{CourseTold};
 
@@ -73,7 +75,12 @@ pub fn perform<U: Unit, C: Source, F: Files, L: Lines, S: Sink>(
         → CourseTold F.tells L.tells (λ whole notes. beginning session.old
         (beyond (F.state files.old).files (L.state lines.old) whole) opening.now (C.left input.old) notes)
         → (IsTrue L.tells → AreApart (L.state lines.old) session.old.machine.lines) → IsTrue S.tells
-        → (whole : List LineAnswer) → IsFirst (record_in (L.state lines.new).told) whole → Performed
+        → InStep (attached_files session.old.machine) (F.state files.old).files
+        → (whole : List LineAnswer) → IsFirst (record_in (L.state lines.new).told) whole → SaysNoMore
+        (λ recorded notes. beginning session.old (beyond (F.state files.old).files (L.state lines.old) recorded)
+        opening.now (C.left input.old) notes) L.tells whole (C.left input.new)
+        (output (S.written out.old) (L.state lines.old).sent) (output (S.written out.new) (L.state lines.new).sent)
+        (notes_said session.old.notes) (notes_said session.new.notes) ⊎ Performed
         (λ notes. beginning session.old (beyond (F.state files.old).files (L.state lines.old) whole) opening.now
         (C.left input.old) notes) result
         (live_in session.new (beyond (F.state files.new).files (L.state lines.new) whole)) (C.left input.new)
