@@ -1,5 +1,5 @@
 -- The disk's file stays in step with the copy of it where files are saved and put back.
-use Rattle.std.proofs.Common.{◌≡◌, Bool, true, false, List, Option, Some, None, set, get_or, refl, ap, sym, ◌∙◌, subst, inl, inr, if◌then◌else◌}
+use Rattle.std.proofs.Common.{◌≡◌, Bool, true, false, List, Option, Some, None, ap, sym, ◌∙◌, subst, inl, inr, if◌then◌else◌}
 use Rattle.std.proofs.lemmas.Bool.{cases_Bool}
 use Rattle.std.proofs.lemmas.List.{get_or-set_other}
 use Rattle.file_traits.specs.Lists.{NamedBytes}

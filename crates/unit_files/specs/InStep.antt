@@ -1,6 +1,6 @@
 -- The disk's file as the code writes it back, page by page, and what ties that to the content alone: as long as nothing else
 -- changes the file, it has the copy's bytes outside the marked pages.
-use Rattle.std.specs.Prelude.{◌≡◌, ◌<◌, ◌≤◌, ℕ, ◌+◌, ◌*◌, Bool, true, false, List, [], ◌∷◌, length, min, take, drop, get_or, slice_get}
+use Rattle.std.specs.Prelude.{◌≡◌, ◌<◌, ◌≤◌, ℕ, ◌+◌, ◌*◌, Bool, false, List, [], ◌∷◌, length, min, take, drop, get_or, slice_get}
 use Rattle.std.specs.Prelude.{Option, Some, None, IsSome, if◌then◌else◌}
 use Rattle.file_traits.specs.declared.files.FileCall.TheVariants.{Write}
 use Rattle.file_traits.specs.Lists.{NamedBytes, find_file, bytes_of, changed, overwritten}
