@@ -551,7 +551,17 @@ keeps-of number time now tells from to k before after old new at e =
 pub keeps-exit : (number time status : ℕ) (tells : Bool) (k : Option UnitName) (before after : List FaultNote) (old new : FileState) → Keeps number time tells (kept_answer k Go) before after old new
     → Keeps number time tells (kept_answer k (Exit status)) before after old new
 keeps-exit number time status tells None before after old new k =
-    record { kept = k.kept; added = k.added; few = k.few; stamped = k.stamped; counted = k.counted; exact = k.exact; openings = k.openings; given = k.given; cause = k.cause }
+    record {
+      kept = k.kept;
+      added = k.added;
+      few = k.few;
+      stamped = k.stamped;
+      counted = k.counted;
+      exact = k.exact;
+      openings = record { unnoted = k.openings.unnoted; few = k.openings.few; count = k.openings.count };
+      given = k.given;
+      cause = k.cause;
+    }
 keeps-exit number time status tells (Some u) before after old new k = k
 
 -- ---- where none has kept its file, nothing is attached, so no note comes behind

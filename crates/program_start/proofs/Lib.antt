@@ -4,3 +4,4 @@ pub mod ReadingLemmas
 pub mod ToldLemmas
 pub mod UnreadLemmas
 pub mod RefusalLemmas
+pub mod WordCountLemmas

@@ -1,5 +1,5 @@
 -- Why the keys file or the script was not read.
-use Rattle.std.proofs.Common.{◌≡◌, inl, inr, ℕ, ◌+◌, ◌<◌, ◌≤◌, Bool, false, IsTrue, List, [], ◌∷◌, ◌++◌, length, get_or, refl, ap, sym, ◌∙◌, subst, arith, append_assoc, Option, Some, None, is_some, String, Global, string_bytes, Result, Ok, Err, IfOk, if◌then◌else◌}
+use Rattle.std.proofs.Common.{◌≡◌, inl, inr, ℕ, ◌+◌, ◌<◌, ◌≤◌, ◌&&◌, not, Bool, false, IsTrue, List, [], ◌∷◌, ◌++◌, length, get_or, refl, ap, sym, ◌∙◌, subst, arith, append_assoc, Option, Some, None, is_some, String, Global, string_bytes, Result, Ok, Err, IfOk, if◌then◌else◌}
 use Rattle.std.specs.Global.{Vec}
 use Rattle.fault_counts.specs.Faults.{raised}
 use Rattle.file_traits.specs.Lists.{NamedBytes, find_file, bytes_of}
@@ -8,11 +8,13 @@ use Rattle.file_commands.specs.declared.note.FaultNote.{FaultNote}
 use Rattle.file_commands.specs.declared.note.Subject.{Subject}
 use Rattle.file_commands.specs.declared.note.Subject.TheVariants as subject
 use Rattle.file_commands.specs.Notes.{notes_said}
+use Rattle.file_commands.specs.Counts.{one_if, openings_noted}
 use Rattle.whole_files.specs.declared.whole.Whole.{Whole}
 use Rattle.whole_files.specs.declared.whole.WholeFault.{WholeFault}
 use Rattle.whole_files.specs.declared.whole.WholeFault.TheVariants as whole
 use Rattle.whole_files.specs.Whole.{longest_file}
-use Rattle.whole_files.specs.Claims.{HasShape, raised_by, claims_on, opening_counted, Fits, WholeCause}
+use Rattle.whole_files.specs.Claims.{HasShape, raised_by, claims_on, opening_counted, is_missing, Fits, WholeCause}
+use Rattle.command_session.specs.Doing as doing
 use Rattle.command_session.specs.Doing.{AllClosings, FileCause, KeepsOwn}
 use Rattle.command_session.specs.declared.next.Next.TheVariants.{Go}
 use Rattle.command_session.specs.Reply.{Answer}
@@ -41,6 +43,13 @@ noted-by tells whose (Err whole.TooLong) notes old new cause = cause
 noted-by tells whose (Err whole.Failed) notes old new cause = cause
 noted-by tells whose (Err whole.OutOfMemory) notes old new cause = cause
 
+missing-same : (whose : Subject) (bytes : Result (Vec ℕ) WholeFault) → doing.is_missing (whole_answer whose goes bytes) ≡ is_missing bytes
+missing-same whose (Ok v) = refl
+missing-same whose (Err whole.NoFile) = refl
+missing-same whose (Err whole.TooLong) = refl
+missing-same whose (Err whole.Failed) = refl
+missing-same whose (Err whole.OutOfMemory) = refl
+
 pub word-cause : (tells : Bool) (whose : Subject) (name name' : List ℕ) (kept one two : List FaultNote) (w : Whole) (old new : FileState)
     → one ≡ kept ++ noted_call whose w.failed → two ≡ one ++ noted_call whose w.closing → name' ≡ name → HasShape w
     → ((file : ℕ) → new.faults file ≡ raised_by (claims_on w file) (old.faults file))
@@ -51,10 +60,15 @@ word-cause tells whose name name' kept one two w old new first second same shape
     read-keeps whose 0 0 tells goes w (whole_answer whose goes w.bytes) kept two old new (λ bytes notes shut. shut) refl shape
     (record { counts = counts; openings = openings; ids = ids; one = most })
     (two-kept whose kept one two w first second ∙ ap (λ (l : List FaultNote). kept ++ l) (noted-as whose w.failed w.closing)) in
+    let none = keeps.openings.few in
+    let named = ap (λ (b : Bool). one_if (b && not tells)) (missing-same whose w.bytes) in
+    let all : keeps.openings.unnoted + (openings_noted keeps.kept + one_if (doing.is_missing (whole_answer whose goes w.bytes) && not tells))
+    ≡ one_if (is_missing w.bytes && not tells) + openings_noted keeps.kept = omega (arith, none, named) in
     record {
       more = keeps.kept;
       added = keeps.added;
       noted = noted-by tells whose w.bytes keeps.kept old new keeps.cause;
+      openings = keeps.openings.count ∙ ap (λ (n : ℕ). raised_by n old.open_faults) all;
       cause = subst (λ (n : List ℕ). WholeCause tells n w.bytes old new) same cause;
     }
 
@@ -132,11 +146,11 @@ none-taken {T} tells whose name value kept state none =
 fits-before : (tells : Bool) (name : List ℕ) (old mid : FileState) → (IsTrue tells → mid.files ≡ old.files) → Fits tells name mid → Fits tells name old
 fits-before tells name old mid same fits = λ told. subst (λ (f : List NamedBytes). length (bytes_of f name) ≤ longest_file) (same told) (fits told)
 
-closings-append : (notes more : List FaultNote) → AllClosings notes → AllClosings more → AllClosings (notes ++ more)
+pub closings-append : (notes more : List FaultNote) → AllClosings notes → AllClosings more → AllClosings (notes ++ more)
 closings-append [] more first second = second
 closings-append (n ∷ notes) more first second = (first.0, closings-append notes more first.1 second)
 
-closings-said : (notes : List FaultNote) → AreWordClosings (notes_said notes) → AllClosings notes
+pub closings-said : (notes : List FaultNote) → AreWordClosings (notes_said notes) → AllClosings notes
 closings-said [] are = tt
 closings-said (n ∷ notes) are = (are.0.2, closings-said notes are.1)
 
@@ -178,7 +192,7 @@ taken-fits tells whose (Some name) value kept kept' old mid new same cause = fit
 
 -- ---- how it begins
 
-from-none : (kept kept' more : List FaultNote) → kept ≡ [] → kept' ≡ kept ++ more → kept' ≡ more
+pub from-none : (kept kept' more : List FaultNote) → kept ≡ [] → kept' ≡ kept ++ more → kept' ≡ more
 from-none kept kept' more none added = added ∙ ap (λ (l : List FaultNote). l ++ more) none
 
 -- the keys were refused

@@ -2,3 +2,4 @@ pub mod Workload
 pub mod Start
 pub mod WordFiles
 pub mod Unread
+pub mod WordCounts

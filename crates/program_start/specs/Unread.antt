@@ -1,14 +1,15 @@
 -- Why the keys file or the script was not read, also where files tell nothing.
-use Rattle.std.specs.Prelude.{◌≡◌, ◌⊎◌, ◌+◌, ◌<◌, ℕ, Bool, List, ◌++◌, Option, Some, None, IfSome, IsSome, Result, Ok, Err}
+use Rattle.std.specs.Prelude.{◌≡◌, ◌⊎◌, ◌+◌, ◌<◌, ◌&&◌, not, ℕ, Bool, List, ◌++◌, Option, Some, None, IfSome, IsSome, Result, Ok, Err}
 use Rattle.std.specs.Global.{Vec}
 use Rattle.file_traits.specs.State.{FileState}
 use Rattle.expect_actions.specs.KeysFile.{keys_read}
 use Rattle.file_commands.specs.declared.note.FaultNote.{FaultNote}
 use Rattle.file_commands.specs.declared.note.Subject.{Subject}
 use Rattle.file_commands.specs.declared.note.Subject.TheVariants as subject
+use Rattle.file_commands.specs.Counts.{one_if, openings_noted}
 use Rattle.whole_files.specs.declared.whole.WholeFault.{WholeFault}
 use Rattle.whole_files.specs.declared.whole.WholeFault.TheVariants as whole
-use Rattle.whole_files.specs.Claims.{Fits, WholeCause}
+use Rattle.whole_files.specs.Claims.{raised_by, is_missing, Fits, WholeCause}
 use Rattle.nova_machine.specs.Machine.{MachineState}
 use Rattle.command_session.specs.Doing.{AllClosings, AreRefusalOf}
 use Rattle.command_words.specs.declared.options.Options.{Options}
@@ -82,11 +83,13 @@ abbrev pub NotedAs : Subject → Result (Vec ℕ) WholeFault → List FaultNote 
 NotedAs whose (Err whole.Failed) notes = AreRefusalOf whose notes
 NotedAs whose bytes notes = AllClosings notes
 
--- why the reading of a word's file answers so
+-- Why the reading of a word's file answers so. The count of openings has risen by just as many as the notes of openings are,
+-- and by one more where the file is missing of files that tell nothing.
 pub record WordCause (tells : Bool) (whose : Subject) (name : List ℕ) (bytes : Result (Vec ℕ) WholeFault) (kept kept' : List FaultNote) (old new : FileState) : Type 0 where
   pub more : List FaultNote
   pub added : kept' ≡ kept ++ more
   pub noted : NotedAs whose bytes more
+  pub openings : new.open_faults ≡ raised_by (one_if (is_missing bytes && not tells) + openings_noted more) old.open_faults
   pub cause : WholeCause tells name bytes old new
 
 -- what is answered by what was read: a file that was read is not refused as one that was not, and as no keys file only by

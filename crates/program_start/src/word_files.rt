@@ -1,7 +1,8 @@
 // The files that the words name: the keys file and the script.
 ghost use Rattle.std.specs.Prelude.{◌≡◌, ◌≢◌, ◌+◌, ◌<◌, ◌≤◌, ◌++◌, ℕ, List, [], IsTrue, IfOk, IfErr, IfSome, Err};
-ghost use Rattle.std.specs.Prelude.{string_bytes, length, get_or, vec_len, vec_capacity};
+ghost use Rattle.std.specs.Prelude.{string_bytes, length, get_or, is_some, vec_len, vec_capacity};
 ghost use Rattle.unit_files.specs.Attachments.{no_files};
+ghost use Rattle.file_commands.specs.Counts.{one_if};
 ghost use Rattle.file_commands.specs.Notes.{notes_said};
 ghost use Rattle.file_commands.specs.OwnFiles.{AreOwn};
 ghost use Rattle.file_commands.specs.declared.note.Subject.TheVariants as subject;
@@ -14,6 +15,7 @@ ghost use Rattle.program_start.specs.WordFiles.{AddsClosings, IsUnrefused, AddsN
 ghost use Rattle.program_start.specs.WordFiles.{AreWordClosings};
 ghost use Rattle.program_start.specs.WordFiles.{NamesTold};
 ghost use Rattle.program_start.specs.Unread.{WordCause, AnswersRead, TakesCause, BeginsCause, keys_ids};
+ghost use Rattle.program_start.specs.WordCounts.{files_named, CountsWordFiles};
 ghost use Rattle.program_start.specs.declared.word_files.Refusal.TheVariants.{OutOfMemory};
 ghost use Rattle.whole_files.specs.declared.whole.WholeFault.TheVariants as whole_faults;
 ghost use Rattle.program_start.specs.Workload.{first_text};
@@ -73,6 +75,8 @@ pub fn begin<F: Files>(
     ensures closings { result ≡ Err OutOfMemory → AreWordClosings (notes_said notes.new.items) }
     ensures unread { BeginsCause F.tells (texts_of words.now) options result notes.new.items (F.state files.old)
         (F.state files.new) }
+    ensures exact { CountsWordFiles F.tells (files_named options) result [] notes.new.items (F.state files.old)
+        (F.state files.new) }
 {
     let keys = take_keys(alloc, words, options, files, notes)?;
     let script = take_script(alloc, words, options, files, notes)?;
@@ -131,6 +135,8 @@ fn take_keys<F: Files>(
     ensures ids { (F.state files.new).given ≤ (F.state files.old).given + keys_ids options.keys }
     ensures taken { IfOk result (λ keys.
         (F.state files.new).given ≡ (F.state files.old).given + keys_ids options.keys) }
+    ensures exact { CountsWordFiles F.tells (one_if (is_some options.keys)) result notes.old.items notes.new.items
+        (F.state files.old) (F.state files.new) }
 {
     match options.keys {
         Some(place) => {
@@ -162,6 +168,8 @@ fn take_script<F: Files>(
     ensures closings { IsUnrefused result → AddsClosings notes.old.items notes.new.items }
     ensures unread { TakesCause F.tells subject.Script (script_name (texts_of words.now) options) result
         notes.old.items notes.new.items (F.state files.old) (F.state files.new) }
+    ensures exact { CountsWordFiles F.tells (one_if (is_some options.script)) result notes.old.items notes.new.items
+        (F.state files.old) (F.state files.new) }
 {
     match options.script {
         Some(place) => {

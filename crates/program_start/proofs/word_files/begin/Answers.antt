@@ -1,5 +1,6 @@
-use Rattle.std.proofs.Common.{Result, List, ℕ, Option, ◌≡◌, ◌∙◌, sym, subst, Ok, Err, rules}
+use Rattle.std.proofs.Common.{Result, List, [], ℕ, Option, is_some, ◌≡◌, ◌∙◌, sym, subst, Ok, Err, rules}
 use Rattle.file_traits.specs.Lists.{NamedBytes}
+use Rattle.file_commands.specs.Counts.{one_if}
 use Rattle.file_commands.specs.Notes.{notes_said}
 use Rattle.file_commands.specs.declared.note.Subject.TheVariants as subject
 use Rattle.command_words.specs.Words.{texts_of, script_name}
@@ -10,10 +11,12 @@ use Rattle.program_start.specs.declared.word_files.Refusal.{Refusal}
 use Rattle.program_start.specs.declared.word_files.Beginning.{Beginning}
 use Rattle.program_start.specs.WordFiles.{Takes, StartsWith}
 use Rattle.program_start.specs.Unread.{BeginsCause}
+use Rattle.program_start.specs.WordCounts.{files_named, CountsWordFiles}
 use Rattle.program_start.proofs.UnreadLemmas.{keys-refused, keys-taken, script-refused, both-fit}
 use Rattle.program_start.proofs.WordFileLemmas.{script-denied, denied-along, both-begin}
 use Rattle.program_start.proofs.ReadingLemmas.{kept-both, own-from-none, closings-none, closings-both, is-want}
 use Rattle.program_start.proofs.ToldLemmas.{names-told}
+use Rattle.program_start.proofs.WordCountLemmas.{keys-shut, keys-counted, script-counted, taken-counted, wanting-counted}
 use Rattle.program_start.proofs.word_files.begin.Goals as goal
 
 pub returns-in_err-script-clause-told : goal.returns-in_err-script-clause-told
@@ -138,3 +141,48 @@ returns-in-Err-clause-unread g c =
     c.in_ok-keys.ensures.unread (c.in_ok-keys.ensures.closings tt) (λ told. c.take_keys.ensures.files (names-told g.F.Files.tells c.args.options told)) c.take_keys.ensures.keeps c.in_ok-keys.ensures.taken in
     let fit = both-fit g.F.Files.tells words c.args.options c.in_ok-script.script c.args.notes.now.items c.take_keys.new.notes.items c.take_script.new.notes.items old mid new keys c.in_ok-script.ensures.unread in
     (λ more. fit.0, λ more. fit.1)
+
+-- ---- how many openings failed
+
+pub returns-in_err-keys-clause-exact : goal.returns-in_err-keys-clause-exact
+returns-in_err-keys-clause-exact g c =
+    let old = g.F.Files.state c.args.files.now in
+    let mid = g.F.Files.state c.take_keys.new.files in
+    let refusal = c.in_err-keys.field-0.0 in
+    let is : c.from_residual.result ≡ Err refusal = search rules in
+    subst (λ (r : Result Beginning Refusal). CountsWordFiles g.F.Files.tells (files_named c.args.options) r [] c.take_keys.new.notes.items old mid) (sym is)
+    (keys-counted _ _ g.F.Files.tells (one_if (is_some c.args.options.keys)) (one_if (is_some c.args.options.script)) refusal c.args.notes.now.items c.take_keys.new.notes.items old mid c.requires.none
+    c.in_err-keys.ensures.exact)
+
+pub returns-in_err-script-clause-exact : goal.returns-in_err-script-clause-exact
+returns-in_err-script-clause-exact g c =
+    let old = g.F.Files.state c.args.files.now in
+    let mid = g.F.Files.state c.take_keys.new.files in
+    let new = g.F.Files.state c.take_script.new.files in
+    let kept = c.args.notes.now.items in
+    let shut = keys-shut kept c.take_keys.new.notes.items c.requires.none (c.in_ok-keys.ensures.closings tt) in
+    let refusal = c.in_err-script.field-0.0 in
+    let is : c.from_residual-in_err-script.result ≡ Err refusal = search rules in
+    subst (λ (r : Result Beginning Refusal). CountsWordFiles g.F.Files.tells (files_named c.args.options) r [] c.take_script.new.notes.items old new) (sym is)
+    (script-counted _ _ _ g.F.Files.tells (one_if (is_some c.args.options.keys)) (one_if (is_some c.args.options.script)) c.in_ok-keys.keys refusal kept c.take_keys.new.notes.items c.take_script.new.notes.items old mid new c.requires.none shut
+    c.in_ok-keys.ensures.exact c.in_err-script.ensures.exact)
+
+pub returns-in-Ok-clause-exact : goal.returns-in-Ok-clause-exact
+returns-in-Ok-clause-exact g c =
+    let old = g.F.Files.state c.args.files.now in
+    let mid = g.F.Files.state c.take_keys.new.files in
+    let new = g.F.Files.state c.take_script.new.files in
+    let kept = c.args.notes.now.items in
+    let shut = keys-shut kept c.take_keys.new.notes.items c.requires.none (c.in_ok-keys.ensures.closings tt) in
+    taken-counted g.F.Files.tells (one_if (is_some c.args.options.keys)) (one_if (is_some c.args.options.script)) c.in_ok-keys.keys c.in_ok-script.script c.in-Ok.beginning kept c.take_keys.new.notes.items c.take_script.new.notes.items old mid new c.requires.none shut
+    c.in_ok-keys.ensures.exact c.in_ok-script.ensures.exact
+
+pub returns-in-Err-clause-exact : goal.returns-in-Err-clause-exact
+returns-in-Err-clause-exact g c =
+    let old = g.F.Files.state c.args.files.now in
+    let mid = g.F.Files.state c.take_keys.new.files in
+    let new = g.F.Files.state c.take_script.new.files in
+    let kept = c.args.notes.now.items in
+    let shut = keys-shut kept c.take_keys.new.notes.items c.requires.none (c.in_ok-keys.ensures.closings tt) in
+    wanting-counted _ g.F.Files.tells (one_if (is_some c.args.options.keys)) (one_if (is_some c.args.options.script)) c.in_ok-keys.keys c.in_ok-script.script kept c.take_keys.new.notes.items c.take_script.new.notes.items old mid new c.requires.none shut
+    c.in_ok-keys.ensures.exact c.in_ok-script.ensures.exact

@@ -1,8 +1,9 @@
-use Rattle.std.proofs.Common.{ℕ, ◌+◌, ◌≤◌, length, Option, sym, subst}
+use Rattle.std.proofs.Common.{ℕ, ◌+◌, ◌≤◌, length, Option, string_bytes, sym, subst}
 use Rattle.file_commands.specs.declared.note.Subject.TheVariants as subject
 use Rattle.command_words.specs.Words.{texts_of, keys_name}
 use Rattle.program_start.specs.Unread.{keys_ids}
 use Rattle.program_start.proofs.UnreadLemmas.{keys-cause, keys-given, none-given, none-taken}
+use Rattle.program_start.proofs.WordCountLemmas.{word-counted, none-counted}
 use Rattle.program_start.proofs.ReadingLemmas.{named-at, keys-take}
 use Rattle.program_start.proofs.ToldLemmas.{keys-told}
 use Rattle.program_start.proofs.word_files.take_keys.Goals as goal
@@ -49,3 +50,12 @@ returns-in-None-clause-taken g c = none-given c.args.options.keys (g.F.Files.sta
 
 pub returns-in-Some-clause-files : goal.returns-in-Some-clause-files
 returns-in-Some-clause-files g c = λ told. c.read_word-read.ensures.files (keys-told g.F.Files.tells c.args.options c.in-Some.place c.in-Some.is told)
+
+pub returns-in-Some-clause-exact : goal.returns-in-Some-clause-exact
+returns-in-Some-clause-exact g c =
+    word-counted g.F.Files.tells subject.Keys (string_bytes c.index-words-place.result) c.read_word-read.result c.keys_of.result c.args.options.keys c.in-Some.place c.args.notes.now.items c.read_word-read.new.notes.items
+    (g.F.Files.state c.args.files.now) (g.F.Files.state c.read_word-read.new.files) c.in-Some.is c.read_word-read.ensures.taken c.read_word-read.ensures.one c.read_word-read.ensures.unread
+    c.keys_of.ensures.answers
+
+pub returns-in-None-clause-exact : goal.returns-in-None-clause-exact
+returns-in-None-clause-exact g c = none-counted g.F.Files.tells c.args.options.keys _ c.args.notes.now.items (g.F.Files.state c.args.files.now) c.in-None.is

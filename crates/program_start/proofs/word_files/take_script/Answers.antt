@@ -1,7 +1,8 @@
-use Rattle.std.proofs.Common.{length}
+use Rattle.std.proofs.Common.{length, string_bytes}
 use Rattle.file_commands.specs.declared.note.Subject.TheVariants as subject
 use Rattle.command_words.specs.Words.{texts_of, script_name}
 use Rattle.program_start.proofs.UnreadLemmas.{script-cause, none-taken}
+use Rattle.program_start.proofs.WordCountLemmas.{word-counted, none-counted}
 use Rattle.program_start.proofs.ReadingLemmas.{named-at, script-take}
 use Rattle.program_start.proofs.ToldLemmas.{script-told}
 use Rattle.program_start.proofs.word_files.take_script.Goals as goal
@@ -34,3 +35,12 @@ returns-in-None-clause-unread g c =
 
 pub returns-in-Some-clause-files : goal.returns-in-Some-clause-files
 returns-in-Some-clause-files g c = λ told. c.read_word-read.ensures.files (script-told g.F.Files.tells c.args.options c.in-Some.place c.in-Some.is told)
+
+pub returns-in-Some-clause-exact : goal.returns-in-Some-clause-exact
+returns-in-Some-clause-exact g c =
+    word-counted g.F.Files.tells subject.Script (string_bytes c.index-words-place.result) c.read_word-read.result c.script_of.result c.args.options.script c.in-Some.place c.args.notes.now.items c.read_word-read.new.notes.items
+    (g.F.Files.state c.args.files.now) (g.F.Files.state c.read_word-read.new.files) c.in-Some.is c.read_word-read.ensures.taken c.read_word-read.ensures.one c.read_word-read.ensures.unread
+    c.script_of.ensures.answers
+
+pub returns-in-None-clause-exact : goal.returns-in-None-clause-exact
+returns-in-None-clause-exact g c = none-counted g.F.Files.tells c.args.options.script _ c.args.notes.now.items (g.F.Files.state c.args.files.now) c.in-None.is
