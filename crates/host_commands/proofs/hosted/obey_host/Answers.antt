@@ -1,4 +1,4 @@
-use Rattle.std.proofs.Common.{refl, ap, sym, ◌∙◌, subst, ◌≡◌, true, Some, None, false}
+use Rattle.std.proofs.Common.{refl, ap, sym, ◌∙◌, subst, ◌≡◌, true, Some, None}
 use Rattle.file_commands.specs.Notes.{notes_said}
 use Rattle.file_commands.specs.declared.note.Subject.TheVariants as subject
 use Rattle.host_lines.specs.Told.{Heard}

@@ -1,4 +1,4 @@
-use Rattle.std.proofs.Common.{Ok, Err, ◌≡◌, ℕ, refl, ap, sym, ◌∙◌, subst, ◌≤◌, ◌^◌, true}
+use Rattle.std.proofs.Common.{Ok, Err, ◌≡◌, ℕ, refl, ap, sym, ◌∙◌, subst, ◌≤◌, ◌^◌}
 use Rattle.unit_files.specs.Attachments.{attachments_of}
 use Rattle.file_commands.specs.Notes.{notes_said}
 use Rattle.unit_files.specs.Buffer.{AttachedFiles}
