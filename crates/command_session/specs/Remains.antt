@@ -5,6 +5,7 @@ use Rattle.file_traits.specs.Lists.{NamedBytes}
 use Rattle.unit_files.specs.Buffer.{disk_unit}
 use Rattle.unit_files.specs.InStep.{InStep}
 use Rattle.file_commands.specs.declared.note.Subject.{Subject}
+use Rattle.scp_parser.specs.Command.{Request, Save, Detach, Exit}
 use Rattle.nova_machine.specs.Machine.{MachineState, attached_files}
 use Rattle.command_session.specs.Live.{Live, CommandState}
 use Rattle.command_session.specs.Nature.{nature}
@@ -29,6 +30,13 @@ MachineRemains true old new = (new ≡ old) ⊎ (new ≡ record (flushed_machine
 abbrev pub StepsIf : Bool → MachineState → List NamedBytes → Type 0
 StepsIf false m files = Unit {0}
 StepsIf true m files = InStep (attached_files m) files
+
+-- whether a command may write back what the disk holds of its file: a SAVE does, and where units lose their files
+abbrev pub writes_back : Request → Bool
+writes_back (Save name) = true
+writes_back (Detach unit) = true
+writes_back (Exit status) = true
+writes_back request = false
 
 -- the same of all that commands work on
 abbrev pub Remains : Bool → Live → Live → Type 0
