@@ -1,7 +1,8 @@
 -- What stands where a command was refused, or where memory ran out in it: all is as it was. Behind a command that
 -- flushes the disk before its own work that may be done, and it stays so.
 use Rattle.std.specs.Prelude.{◌≡◌, ◌⊎◌, Bool, true, false, Option, None, Ok, Err}
-use Rattle.unit_files.specs.Buffer.{disk_unit, no_marks}
+use Rattle.unit_files.specs.Buffer.{disk_unit}
+use Rattle.unit_files.specs.Pages.{no_marks}
 use Rattle.file_commands.specs.declared.note.Subject.{Subject}
 use Rattle.nova_machine.specs.Machine.{MachineState}
 use Rattle.command_session.specs.Live.{Live, CommandState}
@@ -11,16 +12,17 @@ use Rattle.command_session.specs.Asked.{Asked}
 
 -- a machine behind a flush: the disk holds nothing that is to be written back
 abbrev pub flushed_machine : MachineState → MachineState
-flushed_machine m = record m { disk = record m.disk { written = false; marks = no_marks } }
+flushed_machine m = record m { disk = record m.disk { written = false } }
 
 -- the same with all files: that of the disk, by its name, has what the disk holds
 abbrev pub flushed : Live → Live
 flushed live = record live { machine = flushed_machine live.machine; files = flushed_files None disk_unit live }
 
--- a machine that is left by a command that flushes or does not
+-- A machine that is left by a command that flushes or does not: behind a flush no page of the copy is marked, which no
+-- definition speaks of.
 abbrev pub MachineRemains : Bool → MachineState → MachineState → Type 0
 MachineRemains false old new = new ≡ old
-MachineRemains true old new = (new ≡ old) ⊎ (new ≡ flushed_machine old)
+MachineRemains true old new = (new ≡ old) ⊎ (new ≡ record (flushed_machine old) { marks = no_marks })
 
 -- the same of all that commands work on
 abbrev pub Remains : Bool → Live → Live → Type 0
