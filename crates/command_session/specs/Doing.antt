@@ -76,6 +76,10 @@ Does reply (Err Console) at tells before after = IsBrokenOff reply at tells befo
 Does reply (Err OutOfMemory) at tells before after = Unit {0}
 Does reply answer at tells before after = (bare_answer answer ≡ reply.answer) × IsSaid reply at tells before after
 
+-- The console has what it had, and more behind it.
+abbrev pub Grows : Bool → List ℕ → List ℕ → Type 0
+Grows tells before after = IsTrue tells → (added : List ℕ) × (after ≡ before ++ added)
+
 -- ---- the notes of a command
 
 -- the calls by which a unit loses its file: a closing, or a write of what the disk holds, where a sector of that was

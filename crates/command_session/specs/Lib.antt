@@ -7,6 +7,7 @@ pub mod Reply
 pub mod FaultText
 pub mod LineEffects
 pub mod FileEffects
+pub mod DiskFile
 pub mod RunEffects
 pub mod TapeEffects
 pub mod ExitEffects

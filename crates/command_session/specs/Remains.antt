@@ -3,9 +3,9 @@
 use Rattle.std.specs.Prelude.{◌≡◌, ◌⊎◌, Bool, true, false, List, Option, None, Ok, Err}
 use Rattle.file_traits.specs.Lists.{NamedBytes}
 use Rattle.unit_files.specs.Buffer.{disk_unit}
+use Rattle.unit_files.specs.Pages.{no_marks}
 use Rattle.unit_files.specs.InStep.{InStep}
 use Rattle.file_commands.specs.declared.note.Subject.{Subject}
-use Rattle.scp_parser.specs.Command.{Request, Save, Detach, Exit}
 use Rattle.nova_machine.specs.Machine.{MachineState, attached_files}
 use Rattle.command_session.specs.Live.{Live, CommandState}
 use Rattle.command_session.specs.Nature.{nature}
@@ -20,23 +20,16 @@ flushed_machine m = record m { disk = record m.disk { written = false } }
 abbrev pub flushed : Live → Live
 flushed live = record live { machine = flushed_machine live.machine; files = flushed_files None disk_unit live }
 
--- A machine that is left by a command that flushes or does not. Behind a flush nothing is said of the marks of the disk's
--- pages.
+-- A machine that is left by a command that flushes or does not: behind a flush no page of the copy is marked, which no
+-- definition speaks of.
 abbrev pub MachineRemains : Bool → MachineState → MachineState → Type 0
 MachineRemains false old new = new ≡ old
-MachineRemains true old new = (new ≡ old) ⊎ (new ≡ record (flushed_machine old) { marks = new.marks })
+MachineRemains true old new = (new ≡ old) ⊎ (new ≡ record (flushed_machine old) { marks = no_marks })
 
 -- the disk's file is in step with the copy of it, where a command flushes
 abbrev pub StepsIf : Bool → MachineState → List NamedBytes → Type 0
 StepsIf false m files = Unit {0}
 StepsIf true m files = InStep (attached_files m) files
-
--- whether a command may write back what the disk holds of its file: a SAVE does, and where units lose their files
-abbrev pub writes_back : Request → Bool
-writes_back (Save name) = true
-writes_back (Detach unit) = true
-writes_back (Exit status) = true
-writes_back request = false
 
 -- the same of all that commands work on
 abbrev pub Remains : Bool → Live → Live → Type 0

@@ -1,4 +1,4 @@
-ghost use Rattle.std.specs.Prelude.{◌≡◌, ◌≢◌, ◌≤◌, ◌^◌, ◌∷◌, List, [], map, Option, None, true, false, IsTrue, IsSome, is_some, option_map, is_none};
+ghost use Rattle.std.specs.Prelude.{◌≡◌, ◌≢◌, ◌⊎◌, ◌≤◌, ◌^◌, ◌∷◌, List, [], map, Option, None, true, false, IsTrue, IsSome, is_some, option_map, is_none};
 ghost use Rattle.std.specs.List.{AllByRecursion};
 ghost use Rattle.fault_counts.specs.Faults.{Rose};
 ghost use Rattle.observations.specs.Status.{number_of};
@@ -26,7 +26,7 @@ ghost use Rattle.program_start.specs.Unread.{IsUnopened, AreMeasured, HasNoKeys}
 ghost use Rattle.program_start.specs.WordFiles.{IsRefused, RefusedCause, RefusalCause, denial_of, IsDenied, DeniedCause};
 ghost use Rattle.nova_top.specs.Program.{SessionEnds, as_file};
 ghost use Rattle.program_start.specs.Workload.{with_workload};
-ghost use Rattle.nova_top.specs.Resumption.{ResumesSaved};
+ghost use Rattle.nova_top.specs.Resumption.{ResumesSaved, SaysNoMore};
 ghost use Rattle.nova_top.specs.Used.{ProgramTold};
 
 use command_session::{DoFile, ScriptText};
@@ -80,7 +80,8 @@ pub fn simulate<U: Unit, C: Source, S: Sink, F: Files, L: Lines>(
         (C.left input.old) (F.state files.old).files (L.state lines.old) → IsTrue S.tells
         → result.status ≢ 103
         → (whole : List LineAnswer) → IsFirst (record_in (L.state lines.new).told) whole
-        → IsOutcome (texts_of words.now) (C.left input.old) (C.left input.new) (S.written output.old)
+        → SaysNoMore (texts_of words.now) (C.left input.old) (C.left input.new) (S.written output.old)
+        (S.written output.new) (beyond (F.state files.old).files (L.state lines.old) whole) (notes_said result.faults.items) ⊎ IsOutcome (texts_of words.now) (C.left input.old) (C.left input.new) (S.written output.old)
         (S.written output.new) (beyond (F.state files.old).files (L.state lines.old) whole)
         (beyond (F.state files.new).files (L.state lines.new) whole) result.status result.machine
         (notes_said result.faults.items) }
@@ -88,7 +89,8 @@ pub fn simulate<U: Unit, C: Source, S: Sink, F: Files, L: Lines>(
         (C.left input.old) (F.state files.old).files (L.state lines.old) → IsTrue S.tells
         → result.status ≡ 103
         → (whole : List LineAnswer) → IsFirst (record_in (L.state lines.new).told) whole
-        → IsCutShort (texts_of words.now) (C.left input.old) (C.left input.new) (S.written output.old)
+        → SaysNoMore (texts_of words.now) (C.left input.old) (C.left input.new) (S.written output.old)
+        (S.written output.new) (beyond (F.state files.old).files (L.state lines.old) whole) (notes_said result.faults.items) ⊎ IsCutShort (texts_of words.now) (C.left input.old) (C.left input.new) (S.written output.old)
         (S.written output.new) (beyond (F.state files.old).files (L.state lines.old) whole)
         (beyond (F.state files.new).files (L.state lines.new) whole) result.machine
         (notes_said result.faults.items) }
@@ -98,7 +100,8 @@ pub fn simulate<U: Unit, C: Source, S: Sink, F: Files, L: Lines>(
         → (Rose (C.fault_count input.old) (C.fault_count input.new) → ⊥)
         → NoneFailed (F.state files.old) (F.state files.new)
         → (whole : List LineAnswer) → IsFirst (record_in (L.state lines.new).told) whole
-        → IsComplete (texts_of words.now) (C.left input.old) (C.left input.new) (S.written output.old)
+        → SaysNoMore (texts_of words.now) (C.left input.old) (C.left input.new) (S.written output.old)
+        (S.written output.new) (beyond (F.state files.old).files (L.state lines.old) whole) [] ⊎ IsComplete (texts_of words.now) (C.left input.old) (C.left input.new) (S.written output.old)
         (S.written output.new) (beyond (F.state files.old).files (L.state lines.old) whole)
         (beyond (F.state files.new).files (L.state lines.new) whole) result.status result.machine }
     ensures resumed { InputTells (texts_of words.now) C.tells → ProgramTold F.tells L.tells (texts_of words.now)

@@ -30,6 +30,7 @@ use Rattle.command_session.specs.Reply.{Answer, Reply}
 use Rattle.command_session.specs.FaultText.{fault_text}
 use Rattle.command_session.specs.Asked.{Asked, asked}
 use Rattle.command_session.specs.Remains.{Remains, flushes_of, reader_of}
+use Rattle.command_session.specs.DiskFile.{disk_alone}
 use Rattle.command_session.specs.Doing.{IsSaid, IsBrokenOff, Does, ComeBehind}
 use Rattle.scp_script.specs.declared.progress.CommandLoop.{CommandLoop}
 use Rattle.scp_script.specs.declared.progress.Finish.{Finish}
@@ -42,7 +43,7 @@ use Rattle.session_texts.specs.Scripts.{Script, most_scripts, settled}
 use Rattle.expect_actions.specs.Watch.{WatchState}
 use Rattle.session_texts.specs.Actions.{Texts, coming, texts_behind}
 use Rattle.scp_script.specs.Session as ends
-use Rattle.scp_script.specs.Session.{State, Session, SessionEnd, ExitDone, AllDone, InputEnded, BudgetSpent, Going, rested, asking, with_complaint, Upcoming, Ends, Comes, upcoming, text_reply, flushes_next, step, course, trace}
+use Rattle.scp_script.specs.Session.{State, Session, SessionEnd, ExitDone, AllDone, InputEnded, BudgetSpent, NothingSaid, going_on, rested, asking, with_complaint, Upcoming, Ends, Comes, upcoming, text_reply, flushes_next, step, course, trace}
 
 -- the session that the loop stands in, to which these failing calls are still to come
 abbrev pub session_of : CommandState → Beyond → CommandLoop → List ℕ → List Note → Session
@@ -145,13 +146,14 @@ exit_status OutOfMemory = exits.OutOfMemory
 abbrev pub status_of : Finish → ℕ
 status_of finish = number_of (exit_status finish)
 
--- the finish of a session in which nothing failed
-abbrev pub finish_of : SessionEnd → Finish
-finish_of (ExitDone status) = Exit status
-finish_of AllDone = Exit 0
-finish_of InputEnded = EndOfInput
-finish_of ends.FlushFailed = FlushFailed
-finish_of BudgetSpent = Commands
+-- the finish of a session in which nothing failed, if one is said
+abbrev pub finish_of : SessionEnd → Option Finish
+finish_of (ExitDone status) = Some (Exit status)
+finish_of AllDone = Some (Exit 0)
+finish_of InputEnded = Some EndOfInput
+finish_of ends.FlushFailed = Some FlushFailed
+finish_of BudgetSpent = Some Commands
+finish_of NothingSaid = None
 
 -- the notes of a command for which memory ran out: where it was reading a file whole those of its closing, and else
 -- none
@@ -170,7 +172,7 @@ IsShort what number result old new own before after = Unit {0}
 -- A finish that is no fault says by what the session is over. A fault comes before that, wherever the session would
 -- have ended.
 abbrev pub NamesEnd : Finish → SessionEnd → Type 0
-NamesEnd finish end = finish ≢ Console → finish ≢ Input → finish ≡ finish_of end
+NamesEnd finish end = finish ≢ Console → finish ≢ Input → Some finish ≡ finish_of end
 
 -- the input let through the reads that were made, where it failed, and else all that there can be
 abbrev pub LetsThrough : Finish → ℕ → ℕ → ℕ → Type 0
@@ -193,9 +195,10 @@ pub record Finishes (old : Session) (finish : Finish) (new : Session) (before af
   pub end : EndsAs (trace old) (status_of finish) gives made before after (record { live = new.live; notes = new.notes })
   pub named : NamesEnd finish (course old).end
 
--- the session goes on behind its next text, all of whose observations were made; the actions of a stop are let go of then
+-- The session goes on behind its next text, all of whose observations were made; the actions of a stop are let go of then.
+-- Of what comes behind it something is said only where the disk alone has changed the disk's file.
 pub record GoesPast (old new : Session) (before after : Output) : Type 0 where
-  pub next : (step old).next ≡ Going (rested new)
+  pub next : (step old).next ≡ going_on (disk_alone old.live new.live) (rested new)
   pub written : after.console ≡ before.console ++ text_of (step old).made
   pub heard : after.heard ≡ heard_with before.heard (sent_of (step old).made)
   pub reads : AreRead (reads_of (step old).made) old.open_ old.input new.open_ new.input

@@ -1,5 +1,5 @@
 -- What a whole session comes to, from its opening on.
-use Rattle.std.specs.Prelude.{◌≡◌, ℕ, ◌≤◌, Bool, true, List, [], ◌++◌, ◌+◌, drop}
+use Rattle.std.specs.Prelude.{◌≡◌, ◌⊎◌, ℕ, ◌≤◌, Bool, true, List, [], ◌++◌, ◌+◌, drop}
 use Rattle.file_commands.specs.Notes.{Note}
 use Rattle.command_session.specs.Live.{Live, CommandState, Beyond, live_in}
 use Rattle.nova_machine.specs.Comes.{Output}
@@ -10,7 +10,7 @@ use Rattle.scp_script.specs.declared.progress.Finish.TheVariants.{OutOfMemory}
 use Rattle.session_texts.specs.Lines.{reads_left}
 use Rattle.session_texts.specs.Scripts.{Script, first_script}
 use Rattle.session_texts.specs.Actions.{texts_of}
-use Rattle.scp_script.specs.Session.{State, Session, asking, course, trace, ComesTo}
+use Rattle.scp_script.specs.Session.{State, Session, NothingSaid, Over, asking, step, course, trace, ComesTo}
 use Rattle.scp_script.specs.Loop.{EndsAs, LetsThrough, NamesEnd, status_of, StopsShort, MayFollow}
 use Rattle.observations.specs.Observations.{Observation, text_of, reads_of, sent_of}
 
@@ -57,9 +57,27 @@ pub record RunsShort (start : Session) (live : Live) (left : List ℕ) (before a
   pub rest : left ≡ drop (reads_of done + made) start.input
   pub short : StopsShort reached live mid after
 
+-- A session that came in so many texts, and one more, to where something beside the disk had changed the disk's file: all up
+-- to there was printed and read, and nothing is said of what came behind that.
+pub record SaysNoMore (start : Session) (left : List ℕ) (before after : Output) : Type 0 where
+  pub count : ℕ
+  pub done : List (Observation State)
+  pub reached : Session
+  pub comes : ComesTo count start done reached
+  pub state : State
+  pub last : (step reached).next ≡ Over NothingSaid state
+  pub more : List ℕ
+  pub written : after.console ≡ before.console ++ (text_of (done ++ (step reached).made) ++ more)
+  pub made : ℕ
+  pub rest : left ≡ drop (reads_of (done ++ (step reached).made) + made) start.input
+
+-- it is said of all of it
+abbrev pub IsPerformedWhole : Session → Finish → Live → List ℕ → Output → Output → Type 0
+IsPerformedWhole start OutOfMemory live left before after = RunsShort start live left before after
+IsPerformedWhole start finish live left before after = IsSession start finish live left before after
+
 abbrev pub IsPerformed : Session → Finish → Live → List ℕ → Output → Output → Type 0
-IsPerformed start OutOfMemory live left before after = RunsShort start live left before after
-IsPerformed start finish live left before after = IsSession start finish live left before after
+IsPerformed start finish live left before after = SaysNoMore start left before after ⊎ IsPerformedWhole start finish live left before after
 
 -- The session with exactly the notes that were kept.
 pub record Performed (start : List Note → Session) (finish : Finish) (live : Live) (left : List ℕ) (before after : Output) (notes notes' : List Note) : Type 0 where

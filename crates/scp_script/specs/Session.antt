@@ -1,5 +1,5 @@
 -- A session: one text after another, to EXIT, the end of the input, or the end of the budget.
-use Rattle.std.specs.Prelude.{◌≡◌, ℕ, zero, suc, ◌+◌, ◌-◌, ◌^◌, min, max, nat_le, Bool, false, List, [], ◌∷◌, ◌++◌, length, drop, codes, Option, Some, None, Ok, Err, if◌then◌else◌}
+use Rattle.std.specs.Prelude.{◌≡◌, ℕ, zero, suc, ◌+◌, ◌-◌, ◌^◌, min, max, nat_le, Bool, true, false, List, [], ◌∷◌, ◌++◌, length, drop, codes, Option, Some, None, Ok, Err, if◌then◌else◌}
 use Rattle.observations.specs.declared.exit_status.ExitStatus.TheVariants as exits
 use Rattle.observations.specs.Status.{number_of}
 use Rattle.observations.specs.Observations.{Observation, Prints, Reads, Trace, after_made, map_made}
@@ -12,6 +12,7 @@ use Rattle.unit_trait.specs.declared.kind.UnitName.{UnitName}
 use Rattle.expect_actions.specs.Watch.{forgotten}
 use Rattle.file_commands.specs.AllUnits.{Emptied}
 use Rattle.command_session.specs.FileEffects.{emptied_all, emptied_live}
+use Rattle.command_session.specs.DiskFile.{disk_alone}
 use Rattle.command_session.specs.Asked.{Asked, asked}
 use Rattle.scp_commands.specs.Effect.{does}
 use Rattle.command_session.specs.Remains.{flushes_of}
@@ -103,21 +104,24 @@ behind_action s others = record s {
 
 -- By what a session is over where neither console nor input fails: EXIT with that status was done, all was done where the
 -- input is not read, the input has ended, it has and a unit has kept its file since that could not be written back, or a
--- text was due for which no unit of the budget was left.
+-- text was due for which no unit of the budget was left. Behind a text in which something beside the disk has changed the
+-- disk's file, nothing more is said.
 pub data SessionEnd : Type 0 where
   ExitDone : ℕ → SessionEnd
   AllDone : SessionEnd
   InputEnded : SessionEnd
   FlushFailed : SessionEnd
   BudgetSpent : SessionEnd
+  NothingSaid : SessionEnd
 
--- its status
+-- its status; of a session of which nothing more is said it is none that is claimed
 abbrev pub end_status : SessionEnd → ℕ
 end_status (ExitDone status) = status
 end_status AllDone = 0
 end_status InputEnded = 0
 end_status FlushFailed = number_of exits.FlushFailed
 end_status BudgetSpent = number_of exits.Commands
+end_status NothingSaid = 0
 
 -- what comes next in a session: its end, or a text and the session behind it
 pub data Upcoming : Type 0 where
@@ -182,9 +186,14 @@ pub data Following : Type 0 where
 abbrev pub rested : Session → Session
 rested s = record s { live = record s.live { watch = forgotten s.live.watch } }
 
-abbrev pub following : Answer → Session → Following
-following (Ok (Exit status)) s = Over (ExitDone status) (state_of s)
-following answer s = Going (rested s)
+-- it goes on, if it was the disk alone that changed the disk's file; and else no more is said of it
+abbrev pub going_on : Bool → Session → Following
+going_on true s = Going s
+going_on false s = Over NothingSaid (state_of s)
+
+abbrev pub following : Answer → Bool → Session → Following
+following (Ok (Exit status)) alone s = Over (ExitDone status) (state_of s)
+following answer alone s = going_on alone (rested s)
 
 -- what one text of a session comes to
 pub record Step : Type 0 where
@@ -196,7 +205,7 @@ pub record Step : Type 0 where
 unfoldable pub text_step : List (Observation State) → Session → Asked → Step
 text_step asked_first behind what = let reply = text_reply behind.limit behind.texts (handed behind.spent behind.notes) behind.live what in record {
   made = asked_first ++ map_made (state_at behind.notes) reply.made;
-  next = following reply.answer (record behind {
+  next = following reply.answer (disk_alone behind.live reply.after.live) (record behind {
     live = reply.after.live;
     notes = drop reply.after.used behind.notes;
     texts = texts_behind behind.texts what reply.answer reply.after.live.watch;
