@@ -1,5 +1,5 @@
 -- The disk's file stays in step with the copy of it where a file is attached.
-use Rattle.std.proofs.Common.{◌≡◌, ℕ, Bool, true, false, List, Option, Some, None, ap, sym, ◌∙◌, subst, get_or, inl, inr}
+use Rattle.std.proofs.Common.{◌≡◌, ℕ, true, false, List, Option, None, ap, sym, ◌∙◌, subst, inl, inr}
 use Rattle.std.proofs.lemmas.Bool.{cases_Bool}
 use Rattle.std.proofs.lemmas.List.{get_or-set_other}
 use Rattle.file_traits.specs.Lists.{NamedBytes}
@@ -7,7 +7,7 @@ use Rattle.unit_trait.specs.declared.kind.UnitName.{UnitName}
 use Rattle.unit_files.specs.declared.modes.AttachMode.{AttachMode}
 use Rattle.unit_files.specs.Attachments.{Attachment, file_place, is_disk, attachments_of, attachment_at, with_attachment}
 use Rattle.unit_files.specs.Acts.{Attached, attached_by}
-use Rattle.unit_files.specs.Buffer.{Buffer, AttachedFiles, disk_unit}
+use Rattle.unit_files.specs.Buffer.{AttachedFiles, disk_unit}
 use Rattle.unit_files.specs.InStep.{InStep}
 use Rattle.unit_files.proofs.Copies.{not-first}
 use Rattle.nova_machine.specs.Machine.{attached_files}
