@@ -462,12 +462,31 @@ same-length number (k ∷ kept) (n ∷ own) said =
     ap suc (same-length number kept own rest)
 
 -- the emptying that a call has claimed, of what commands work on
-module _ (number time : ℕ) (live : Live) (from to : Filed) (k : Option UnitName) (before after : List FaultNote) (old now : FileState)
-    (at : time ≡ live.machine.time) (are : from ≡ filed_in live) (e : Empties number time attachable from to k before after old now) where
-  all-is : emptied_all e.own live ≡ record { left = to; used = length e.own; kept = k }
-  all-is = (λ i. emptied (sym at i) attachable (sym are i) e.own) ∙ e.is
+module _ (step : Type 0) (number time : ℕ) (live : Live) (from to : Filed) (k : Option UnitName) (before after : List FaultNote) (old now : FileState)
+    (at : time ≡ live.machine.time) (are : from ≡ filed_in live) (e : Empties step number time attachable from to k before after old now) where
+  abbrev made : Filed
+  made = record to { files = e.left live.files }
 
-  pub closes-of : (new : Live) → new ≡ left_by k to live → ClosesFiles number live new k (notes_said before) (notes_said after)
+  all-is : emptied_all e.own live ≡ record { left = made; used = length e.own; kept = k }
+  all-is =
+      ap (λ (t : ℕ). emptied t attachable (filed_in live) e.own) (sym at)
+      ∙ ap (λ (s : Filed). emptied time attachable (record s { files = live.files }) e.own) (sym are)
+      ∙ e.is live.files
+
+  -- but for the files
+  same-left : (j : Option UnitName) → left_by j to live ≡ record (left_by j made live) { files = to.files }
+  same-left None = refl
+  same-left (Some u) = refl
+
+  left-files : (j : Option UnitName) → (left_by j to live).files ≡ to.files
+  left-files None = refl
+  left-files (Some u) = refl
+
+  made-files : (j : Option UnitName) → e.left live.files ≡ (left_by j made live).files
+  made-files None = refl
+  made-files (Some u) = refl
+
+  pub closes-of : (new : Live) → new ≡ left_by k to live → ClosesFiles step number live new k (notes_said before) (notes_said after)
   closes-of new left =
       let used : (emptied_all e.own live).used ≡ length e.own = ap (λ (x : Emptied). x.used) all-is in
       record {
@@ -475,7 +494,13 @@ module _ (number time : ℕ) (live : Live) (from to : Filed) (k : Option UnitNam
         kept = ap notes_said e.added ∙ said-append before e.kept ∙ ap (λ (l : List Note). notes_said before ++ l) e.said;
         used = used;
         keeps = ap (λ (x : Emptied). x.kept) all-is;
-        after = left ∙ sym (ap (λ (x : Emptied). filed_live x live) all-is);
+        after =
+            let files : new.files ≡ to.files = ap (λ (l : Live). l.files) left ∙ left-files k in
+            left ∙ same-left k ∙ ap (λ (fs : List NamedBytes). record (left_by k made live) { files = fs }) (sym files)
+            ∙ ap (λ (x : Emptied). record (filed_live x live) { files = new.files }) (sym all-is);
+        content = λ s.
+            ap (λ (l : Live). l.files) left ∙ left-files k ∙ e.content s ∙ ap e.left (ap (λ (x : Filed). x.files) are) ∙ made-files k
+            ∙ ap (λ (x : Emptied). (filed_live x live).files) (sym all-is);
         behind = come-behind live e.own (are-of live.machine.time attachable (filed_in live) e.own used);
       }
 
@@ -483,32 +508,32 @@ pub none-other : AreOthers (record { kind = Mta; unit = 0 } ∷ record { kind = 
 none-other = (refl, (refl, (refl, (refl, (refl, (refl, (refl, (refl, (refl, (refl, (refl, tt)))))))))))
 
 -- a unit that has kept its file is the disk, and then only files have changed
-kept-left : (number time : ℕ) (from to : Filed) (u : UnitName) (before after : List FaultNote) (old now : FileState) → Empties number time attachable from to (Some u) before after old now
+kept-left : (step : Type 0) (number time : ℕ) (from to : Filed) (u : UnitName) (before after : List FaultNote) (old now : FileState) → Empties step number time attachable from to (Some u) before after old now
     → (to.attached ≡ from.attached) × (to.disk ≡ from.disk)
-kept-left number time from to u before after old now e =
-    let used : (emptied time attachable from e.own).used ≡ length e.own = ap (λ (x : Emptied). x.used) e.is in
-    let is = kept-is time _ _ from e.own u none-other used (ap (λ (x : Emptied). x.kept) e.is) in
-    let left : to ≡ written_in _ _ from = sym (ap (λ (x : Emptied). x.left) e.is) ∙ ap (λ (l : List CommandNote). (emptied time attachable from l).left) is.own_is ∙ ap (λ (x : Emptied). x.left) (is.always []) in
+kept-left step number time from to u before after old now e =
+    let used : (emptied time attachable from e.own).used ≡ length e.own = ap (λ (x : Emptied). x.used) (e.is from.files) in
+    let is = kept-is time _ _ from e.own u none-other used (ap (λ (x : Emptied). x.kept) (e.is from.files)) in
+    let left : record to { files = e.left from.files } ≡ written_in _ _ from = sym (ap (λ (x : Emptied). x.left) (e.is from.files)) ∙ ap (λ (l : List CommandNote). (emptied time attachable from l).left) is.own_is ∙ ap (λ (x : Emptied). x.left) (is.always []) in
     (ap (λ (s : Filed). s.attached) left, ap (λ (s : Filed). s.disk) left)
 
 -- a machine with what is attached to it
 same-attached : (m : MachineState) → with_attached (erased m) (attached_in (erased m)) ≡ erased m
 same-attached m = ap (λ (l : List (Option Held)). record (erased m) { slots = l }) (ap numberless (attached-erased m) ∙ sym (unnumbered-is m.slots))
 
-pub left-is : (number time : ℕ) (watch : WatchState) (keys : List (ℕ × ℕ)) (files files' : List NamedBytes) (lines : LineState) (whole : List LineAnswer) (m : MachineState) (a held : AttachedFiles) (k : Option UnitName) (before after : List FaultNote) (old now : FileState)
-    → held ≡ attached_files m → Empties number time attachable (filed_of held files) (filed_of a files') k before after old now
+pub left-is : (step : Type 0) (number time : ℕ) (watch : WatchState) (keys : List (ℕ × ℕ)) (files files' : List NamedBytes) (lines : LineState) (whole : List LineAnswer) (m : MachineState) (a held : AttachedFiles) (k : Option UnitName) (before after : List FaultNote) (old now : FileState)
+    → held ≡ attached_files m → Empties step number time attachable (filed_of held files) (filed_of a files') k before after old now
     → seen (beside watch keys files' lines) whole (with_attached_files m a) ≡ left_by k (filed_of a files') (seen (beside watch keys files lines) whole m)
-left-is number time watch keys files files' lines whole m a held None before after old now was e = seen-with watch keys files' lines whole m a (attachments_of a.slots) a.disk refl refl
-left-is number time watch keys files files' lines whole m a held (Some u) before after old now was e =
-    let same = kept-left number time (filed_of held files) (filed_of a files') u before after old now e in
+left-is step number time watch keys files files' lines whole m a held None before after old now was e = seen-with watch keys files' lines whole m a (attachments_of a.slots) a.disk refl refl
+left-is step number time watch keys files files' lines whole m a held (Some u) before after old now was e =
+    let same = kept-left step number time (filed_of held files) (filed_of a files') u before after old now e in
     seen-with watch keys files' lines whole m a (attached_in (erased m)) m.disk (same.0 ∙ ap (λ (x : AttachedFiles). attachments_of x.slots) was ∙ sym (attached-erased m)) (same.1 ∙ ap (λ (x : AttachedFiles). x.disk) was)
     ∙ ap (λ (x : MachineState). record (seen (beside watch keys files' lines) whole m) { machine = x }) (same-attached m)
 
 -- the notes that are kept
-pub keeps-of : (number time now : ℕ) (tells : Bool) (from to : Filed) (k : Option UnitName) (before after : List FaultNote) (old new : FileState)
-    → time ≡ now → Empties number time attachable from to k before after old new → Keeps number now tells (kept_answer k Go) before after old new
-keeps-of number time now tells from to k before after old new at e =
-    let used : (emptied time attachable from e.own).used ≡ length e.own = ap (λ (x : Emptied). x.used) e.is in
+pub keeps-of : (step : Type 0) (number time now : ℕ) (tells : Bool) (from to : Filed) (k : Option UnitName) (before after : List FaultNote) (old new : FileState)
+    → time ≡ now → Empties step number time attachable from to k before after old new → Keeps number now tells (kept_answer k Go) before after old new
+keeps-of step number time now tells from to k before after old new at e =
+    let used : (emptied time attachable from e.own).used ≡ length e.own = ap (λ (x : Emptied). x.used) (e.is from.files) in
     record {
       kept = e.kept;
       added = e.added;
@@ -537,14 +562,14 @@ keeps-of number time now tells from to k before after old new at e =
         let made : x.call ≡ Write = ap (λ (y : Note). y.note.failure.call) first ∙ call in
         refused-first (subject.Unit u) x [] (ap (λ (y : Note). y.note.subject) first ∙ of, λ closing. absurd (let both : Write ≡ Closing = sym made ∙ closing in cc)) tt
 
-    by-keeper : (k : Option UnitName) (e : Empties number time attachable from to k before after old new)
+    by-keeper : (k : Option UnitName) (e : Empties step number time attachable from to k before after old new)
         → FileCause (record { command = number; time = now }) tells (kept_answer k Go) e.kept old new
     by-keeper None e =
-        let used : (emptied time attachable from e.own).used ≡ length e.own = ap (λ (x : Emptied). x.used) e.is in
-        all-closings number e.kept e.own e.said (all-closing time attachable from e.own used (ap (λ (x : Emptied). x.kept) e.is))
+        let used : (emptied time attachable from e.own).used ≡ length e.own = ap (λ (x : Emptied). x.used) (e.is from.files) in
+        all-closings number e.kept e.own e.said (all-closing time attachable from e.own used (ap (λ (x : Emptied). x.kept) (e.is from.files)))
     by-keeper (Some u) e =
-        let used : (emptied time attachable from e.own).used ≡ length e.own = ap (λ (x : Emptied). x.used) e.is in
-        let is = kept-is time _ _ from e.own u none-other used (ap (λ (x : Emptied). x.kept) e.is) in
+        let used : (emptied time attachable from e.own).used ≡ length e.own = ap (λ (x : Emptied). x.used) (e.is from.files) in
+        let is = kept-is time _ _ from e.own u none-other used (ap (λ (x : Emptied). x.kept) (e.is from.files)) in
         refusal e.kept is.note u (e.said ∙ ap (numbered number) is.own_is) (is.subject_is ∙ ap subject.Unit (sym is.unit_is)) is.call
 
 -- the same where the session ends then
@@ -586,23 +611,28 @@ unmoved live own behind (Some u) used kept come =
     let is = kept-is live.machine.time _ _ (filed_in live) own u none-other used kept in
     ap (λ (l : List CommandNote). emptied_all (l ++ behind) live) is.own_is ∙ is.always behind ∙ sym (is.always []) ∙ sym (ap (λ (l : List CommandNote). emptied_all l live) is.own_is)
 
-pub all-did : (next : Next) (number : ℕ) (live new : Live) (k : Option UnitName) (tells : Bool) (text : Output) (notes notes' : List Note) → bare_answer (Ok next) ≡ Ok next
+pub all-did : (step : Type 0) (next : Next) (number : ℕ) (live new : Live) (k : Option UnitName) (tells : Bool) (text : Output) (notes notes' : List Note) → bare_answer (Ok next) ≡ Ok next
     → ((at : Standing) (reply : Reply) → (bare_answer (Ok next) ≡ reply.answer) × IsSaid reply at tells text text → Does reply (Ok next) at tells text text)
-    → Closes number live new k notes notes' → Did (λ (own : List CommandNote). emptied_reply next (emptied_all own live) live) number (kept_answer k next) new tells text text notes notes'
-all-did next number live new k tells text notes notes' plain does closes = record {
+    → Closes step number live new k notes notes' → step → Did (λ (own : List CommandNote). emptied_reply next (emptied_all own live) live) number (kept_answer k next) new tells text text notes notes'
+all-did step next number live new k tells text notes notes' plain does closes steps = record {
   own = closes.own;
   kept = closes.kept;
   does = λ behind come.
-      let same = unmoved live closes.own behind k closes.used closes.keeps (subst (λ (l : Live). ComeBehind l behind) closes.after come) in
+      let same = unmoved live closes.own behind k closes.used closes.keeps (subst (λ (l : Live). ComeBehind l behind) after come) in
       let e = emptied_all closes.own live in
       subst (λ (x : Emptied). Does (emptied_reply next x live) (kept_answer k next) (standing (length closes.own) new) tells text text) (sym same)
       (by-keeper k (sym (ap (λ (x : Option UnitName). kept_answer x next) closes.keeps)) (record {
-        after_is = λ i. standing (sym closes.used i) (closes.after i);
+        after_is = λ i. standing (sym closes.used i) (after i);
         written = λ _. sym (append-nil text.console);
         heard = sym (heard-nothing text.heard);
       }));
 }
   where
+    after : new ≡ emptied_live (emptied_all closes.own live) live
+    after =
+        closes.after
+        ∙ ap (λ (fs : List NamedBytes). record (emptied_live (emptied_all closes.own live) live) { files = fs }) (closes.content steps)
+
     by-keeper : (k : Option UnitName) → kept_answer k next ≡ (emptied_reply next (emptied_all closes.own live) live).answer
         → IsSaid (emptied_reply next (emptied_all closes.own live) live) (standing (length closes.own) new) tells text text
         → Does (emptied_reply next (emptied_all closes.own live) live) (kept_answer k next) (standing (length closes.own) new) tells text text
@@ -612,29 +642,37 @@ all-did next number live new k tells text notes notes' plain does closes = recor
 -- ---- behind the files, the port of the second teletype
 
 -- no unit has kept its file: the port is given up
-pub closes-ported : (number : ℕ) (live mid new : Live) (notes notes' : List Note) → ClosesFiles number live mid None notes notes'
-    → new ≡ unported_by None mid → Closes number live new None notes notes'
-closes-ported number live mid new notes notes' closes is = record {
+pub closes-ported : (step : Type 0) (number : ℕ) (live mid new : Live) (notes notes' : List Note) → ClosesFiles step number live mid None notes notes'
+    → new ≡ unported_by None mid → Closes step number live new None notes notes'
+closes-ported step number live mid new notes notes' closes is = record {
   own = closes.own;
   kept = closes.kept;
   used = closes.used;
   keeps = closes.keeps;
   after =
+      let left = filed_live (emptied_all closes.own live) live in
       is ∙ ap (unported_by None) closes.after
-      ∙ ap (λ (k : Option UnitName). unported_by k (filed_live (emptied_all closes.own live) live)) (sym closes.keeps);
+      ∙ ap (λ (fs : List NamedBytes). record (unported_by None left) { files = fs }) (sym (ap (λ (l : Live). l.files) is))
+      ∙ ap (λ (k : Option UnitName). record (unported_by k left) { files = new.files }) (sym closes.keeps);
+  content = λ s.
+      ap (λ (l : Live). l.files) is ∙ closes.content s
+      ∙ ap (λ (k : Option UnitName). (unported_by k (filed_live (emptied_all closes.own live) live)).files) (sym closes.keeps);
   behind = closes.behind;
 }
 
 -- one has kept it, and so does the terminal
-pub closes-kept : (number : ℕ) (live new : Live) (unit : UnitName) (notes notes' : List Note) → ClosesFiles number live new (Some unit) notes notes'
-    → Closes number live new (Some unit) notes notes'
-closes-kept number live new unit notes notes' closes = record {
+pub closes-kept : (step : Type 0) (number : ℕ) (live new : Live) (unit : UnitName) (notes notes' : List Note) → ClosesFiles step number live new (Some unit) notes notes'
+    → Closes step number live new (Some unit) notes notes'
+closes-kept step number live new unit notes notes' closes = record {
   own = closes.own;
   kept = closes.kept;
   used = closes.used;
   keeps = closes.keeps;
   after =
       closes.after
-      ∙ ap (λ (k : Option UnitName). unported_by k (filed_live (emptied_all closes.own live) live)) (sym closes.keeps);
+      ∙ ap (λ (k : Option UnitName). record (unported_by k (filed_live (emptied_all closes.own live) live)) { files = new.files }) (sym closes.keeps);
+  content = λ s.
+      closes.content s
+      ∙ ap (λ (k : Option UnitName). (unported_by k (filed_live (emptied_all closes.own live) live)).files) (sym closes.keeps);
   behind = closes.behind;
 }

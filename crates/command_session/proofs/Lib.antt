@@ -3,9 +3,11 @@ pub mod PortAnswerLemmas
 pub mod CountedLemmas
 pub mod ResetKeeps
 pub mod SeenLemmas
+pub mod StepLemmas
 pub mod ReplyLemmas
 pub mod CloseLemmas
 pub mod DidLemmas
+pub mod GrowLemmas
 pub mod BehindLemmas
 pub mod PortLemmas
 pub mod WholeLemmas

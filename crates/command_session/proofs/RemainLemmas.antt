@@ -45,7 +45,7 @@ undone-none flushes reads says old new text files machine watch keys notes = rec
   notes = notes-remain reads old.command old.machine.time old.notes new.notes notes;
   written = refl;
   lines = ap (λ (m : MachineState). m.lines) machine;
-  live = λ told lines whole.
+  live = λ told steps lines whole.
       let around = beyond files.files lines whole in
       remains flushes (live_in old around) (live_in new around) (same-live old new around around machine watch keys refl);
 }
@@ -58,6 +58,6 @@ undone-as flushes reads now says less old new before after files files' same few
   notes = subst (λ (r : Option Subject). NotesRemain r old.command old.machine.time old.notes new.notes) (sym same) undone.notes;
   written = undone.written;
   lines = undone.lines;
-  live = λ told lines whole.
-      remains flushes (live_in old (beyond files.files lines whole)) (live_in new (beyond files'.files lines whole)) (undone.live (fewer told) lines whole);
+  live = λ told steps lines whole.
+      remains flushes (live_in old (beyond files.files lines whole)) (live_in new (beyond files'.files lines whole)) (undone.live (fewer told) tt lines whole);
 }

@@ -44,7 +44,7 @@ use Rattle.command_session.specs.declared.fault.CommandFault.TheVariants.{LoadTr
 use Rattle.command_session.specs.Live.{Live, Standing, standing, CommandState, beyond, live_in}
 use Rattle.command_session.specs.Nature.{Telling, nature}
 use Rattle.command_session.specs.Nature.Telling.{Nothing, Ported, Listening, Attached, Named, Whole}
-use Rattle.command_session.specs.Remains.{Remains, AreLeft}
+use Rattle.command_session.specs.Remains.{Remains, StepsIf, AreLeft}
 use Rattle.command_session.specs.Reply.{Answer, Reply, bare_answer}
 use Rattle.command_session.specs.FileEffects.{mode_of, emptied_all, filed_live, emptied_live}
 
@@ -75,6 +75,10 @@ abbrev pub Does : Reply → Answer → Standing → Bool → Output → Output �
 Does reply (Err Console) at tells before after = IsBrokenOff reply at tells before after
 Does reply (Err OutOfMemory) at tells before after = Unit {0}
 Does reply answer at tells before after = (bare_answer answer ≡ reply.answer) × IsSaid reply at tells before after
+
+-- The console has what it had, and more behind it.
+abbrev pub Grows : Bool → List ℕ → List ℕ → Type 0
+Grows tells before after = IsTrue tells → (added : List ℕ) × (after ≡ before ++ added)
 
 -- ---- the notes of a command
 
@@ -419,34 +423,38 @@ NotesRemain None number time notes notes' = notes' ≡ notes
 NotesRemain (Some who) number time notes notes' =
     (kept : List FaultNote) × (notes' ≡ notes ++ kept) × AllByRecursion (IsShutNote who number time) kept
 
--- nothing was done, but that a command may have flushed the disk, or closed the file that it was reading
+-- Nothing was done, but that a command may have flushed the disk, or closed the file that it was reading. What a flush makes of
+-- files is said where the disk's file was in step with the copy of it.
 pub record IsUndone (flushes : Bool) (reads : Option Subject) (says : Bool) (old new : CommandState) (before after : List ℕ) (files files' : FileState) : Type 0 where
   pub left : AreLeft flushes old new
   pub notes : NotesRemain reads old.command old.machine.time old.notes new.notes
   pub written : after ≡ before
   pub lines : new.machine.lines ≡ old.machine.lines
-  pub live : IsTrue says → (lines : LineState) (whole : List LineAnswer)
+  pub live : IsTrue says → StepsIf flushes old.machine files.files → (lines : LineState) (whole : List LineAnswer)
       → Remains flushes (live_in old (beyond files.files lines whole)) (live_in new (beyond files'.files lines whole))
 
 -- ---- the end of the input
 
 -- All units have lost their files, up to one that has kept it, with the notes that were kept for it: they are used, and
--- they may come behind those of the last command.
-pub record ClosesFiles (number : ℕ) (live new : Live) (keeper : Option UnitName) (notes notes' : List Note) : Type 0 where
+-- they may come behind those of the last command. The files are what that makes of them where the disk's file was in step with
+-- the copy of it; all else is so whatever files there are.
+pub record ClosesFiles (step : Type 0) (number : ℕ) (live new : Live) (keeper : Option UnitName) (notes notes' : List Note) : Type 0 where
   pub own : List CommandNote
   pub kept : notes' ≡ notes ++ numbered number own
   pub used : (emptied_all own live).used ≡ length own
   pub keeps : (emptied_all own live).kept ≡ keeper
-  pub after : new ≡ filed_live (emptied_all own live) live
+  pub after : new ≡ record (filed_live (emptied_all own live) live) { files = new.files }
+  pub content : step → new.files ≡ (filed_live (emptied_all own live) live).files
   pub behind : ComeBehind live own
 
 -- the same at the end, where the port of the second teletype is given up behind that, if no unit has kept its file
-pub record Closes (number : ℕ) (live new : Live) (keeper : Option UnitName) (notes notes' : List Note) : Type 0 where
+pub record Closes (step : Type 0) (number : ℕ) (live new : Live) (keeper : Option UnitName) (notes notes' : List Note) : Type 0 where
   pub own : List CommandNote
   pub kept : notes' ≡ notes ++ numbered number own
   pub used : (emptied_all own live).used ≡ length own
   pub keeps : (emptied_all own live).kept ≡ keeper
-  pub after : new ≡ emptied_live (emptied_all own live) live
+  pub after : new ≡ record (emptied_live (emptied_all own live) live) { files = new.files }
+  pub content : step → new.files ≡ (emptied_live (emptied_all own live) live).files
   pub behind : ComeBehind live own
 
 -- what a function answers that prints and then has that to say

@@ -1,10 +1,12 @@
 -- What stands where a command was refused, or where memory ran out in it: all is as it was. Behind a command that
 -- flushes the disk before its own work that may be done, and it stays so.
-use Rattle.std.specs.Prelude.{◌≡◌, ◌⊎◌, Bool, true, false, Option, None, Ok, Err}
+use Rattle.std.specs.Prelude.{◌≡◌, ◌⊎◌, Bool, true, false, List, Option, None, Ok, Err}
+use Rattle.file_traits.specs.Lists.{NamedBytes}
 use Rattle.unit_files.specs.Buffer.{disk_unit}
 use Rattle.unit_files.specs.Pages.{no_marks}
+use Rattle.unit_files.specs.InStep.{InStep}
 use Rattle.file_commands.specs.declared.note.Subject.{Subject}
-use Rattle.nova_machine.specs.Machine.{MachineState}
+use Rattle.nova_machine.specs.Machine.{MachineState, attached_files}
 use Rattle.command_session.specs.Live.{Live, CommandState}
 use Rattle.command_session.specs.Nature.{nature}
 use Rattle.command_session.specs.FileEffects.{flushed_files}
@@ -23,6 +25,11 @@ flushed live = record live { machine = flushed_machine live.machine; files = flu
 abbrev pub MachineRemains : Bool → MachineState → MachineState → Type 0
 MachineRemains false old new = new ≡ old
 MachineRemains true old new = (new ≡ old) ⊎ (new ≡ record (flushed_machine old) { marks = no_marks })
+
+-- the disk's file is in step with the copy of it, where a command flushes
+abbrev pub StepsIf : Bool → MachineState → List NamedBytes → Type 0
+StepsIf false m files = Unit {0}
+StepsIf true m files = InStep (attached_files m) files
 
 -- the same of all that commands work on
 abbrev pub Remains : Bool → Live → Live → Type 0

@@ -1,11 +1,12 @@
 ghost use Rattle.std.specs.Prelude.{◌≡◌, ◌≤◌, ◌<◌, List, [], map, IsTrue, IfOk, IfErr, OnOk, OnErr};
 ghost use Rattle.file_traits.specs.State.{Opened};
 ghost use Rattle.unit_list.specs.Bus.{kinds_of};
+ghost use Rattle.unit_files.specs.InStep.{InStep};
 ghost use Rattle.unit_files.specs.Open.{AllOpen, Around};
 ghost use Rattle.file_commands.specs.Notes.{notes_said};
 ghost use Rattle.expect_actions.specs.Watch.{empty_watch};
 ghost use Rattle.unit_list.specs.BusOrder.{IsBusOrder};
-ghost use Rattle.nova_machine.specs.Machine.{new_machine};
+ghost use Rattle.nova_machine.specs.Machine.{attached_files, new_machine};
 
 use crate::terminal::close_terminal;
 use expect_actions::{Keys, Watch};
@@ -118,9 +119,12 @@ impl<U: Unit> Session<U> {
         requires room { 12 ≤ self.old.spare }
         requires open { AllOpen self.old.machine.slots (F.state files.old).opened }
         ensures closes { AreLinesTold L.tells (L.state lines.old) self.old.machine.lines → (whole : List LineAnswer)
-            → Closes self.old.command (live_in self.old (beyond (F.state files.old).files (L.state lines.old) whole))
+            → Closes (InStep (attached_files self.old.machine) (F.state files.old).files) self.old.command
+            (live_in self.old (beyond (F.state files.old).files (L.state lines.old) whole))
             (live_in self.new (beyond (F.state files.new).files (L.state lines.new) whole)) (keeper result)
             (notes_said self.old.notes) (notes_said self.new.notes) }
+        ensures step { InStep (attached_files self.old.machine) (F.state files.old).files
+            → InStep (attached_files self.new.machine) (F.state files.new).files }
         ensures left { LinesLeft L.tells (L.state lines.old) self.old.machine.lines (L.state lines.new)
             self.new.machine.lines }
         ensures unasked { OnErr result (lines.new ≡ lines.old) }
@@ -155,9 +159,12 @@ impl<U: Unit> Session<U> {
         requires room { 12 ≤ self.old.spare }
         requires open { AllOpen self.old.machine.slots (F.state files.old).opened }
         ensures closes { (lines : LineState) (whole : List LineAnswer)
-            → ClosesFiles self.old.command (live_in self.old (beyond (F.state files.old).files lines whole))
+            → ClosesFiles (InStep (attached_files self.old.machine) (F.state files.old).files) self.old.command
+            (live_in self.old (beyond (F.state files.old).files lines whole))
             (live_in self.new (beyond (F.state files.new).files lines whole)) (keeper result)
             (notes_said self.old.notes) (notes_said self.new.notes) }
+        ensures step { InStep (attached_files self.old.machine) (F.state files.old).files
+            → InStep (attached_files self.new.machine) (F.state files.new).files }
         ensures keeps { Keeps self.old.command self.new.machine.time F.tells (kept_answer (keeper result) Go)
             self.old.notes self.new.notes (F.state files.old) (F.state files.new) }
         ensures cause { OnErr result

@@ -3,6 +3,7 @@ use Rattle.std.proofs.Common.{◌≡◌, ◌==◌, ◌&&◌, ◌||◌, ℕ, ◌+
 use Rattle.std.proofs.Common.{append_assoc, append-nil, refl, ap, sym, ◌∙◌, subst, arith, if◌then◌else◌}
 use Rattle.std.specs.List.{AllByRecursion}
 use Rattle.std.proofs.lemmas.Bool.Decides.{nat_tests}
+use Rattle.file_traits.specs.Lists.{NamedBytes}
 use Rattle.file_traits.specs.State.{FileState}
 use Rattle.unit_trait.specs.declared.kind.UnitName.{UnitName}
 use Rattle.unit_trait.specs.Kinds.{same_unit}
@@ -83,17 +84,17 @@ emptied-more time u us s own fault said met is =
     (λ i. emptied_as (said_in (met i) u s) u (written_in (met i) u s) (λ more. emptied time us (without_file (met i) u s) more) own)
     ∙ ap (λ (x : DetachSaid). emptied_as x u (written_in fault u s) (λ more. emptied time us (without_file fault u s) more) own) is
 
-pub empties-none : (number time : ℕ) (us : List UnitName) (s : Filed) (before : List FaultNote) (now : FileState) → us ≡ [] → Empties number time us s s None before before now now
-empties-none number time us s before now none =
-    let P : List UnitName → Type 0 = λ x. Empties number time x s s None before before now now in
-    subst P (sym none) (record { own = []; kept = []; added = sym (append-nil before); said = refl; among = tt; is = emptied-nothing time s []; counted = counted-none now; all = all-none now })
+pub empties-none : (step : Type 0) (number time : ℕ) (us : List UnitName) (s : Filed) (before : List FaultNote) (now : FileState) → us ≡ [] → Empties step number time us s s None before before now now
+empties-none step number time us s before now none =
+    let P : List UnitName → Type 0 = λ x. Empties step number time x s s None before before now now in
+    subst P (sym none) (record { own = []; kept = []; added = sym (append-nil before); said = refl; among = tt; left = λ files. files; is = λ files. emptied-nothing time (record s { files = files }) []; content = λ _. refl; counted = counted-none now; all = all-none now })
 
 -- what the calls of one unit say
-pub record Calls (stamp : Stamp) (u : UnitName) (from mid : Filed) (r : Result (Option UnitFault) DetachFault) (before after : List FaultNote) (old new : FileState) : Type 0 where
+pub record Calls (step : Type 0) (stamp : Stamp) (u : UnitName) (from mid : Filed) (r : Result (Option UnitFault) DetachFault) (before after : List FaultNote) (old new : FileState) : Type 0 where
   pub said : said_of_detach r ≡ said_in (failure_now stamp.time (subject.Unit u) (own_of stamp.time (fault_of_detach r))) u from
   pub attached : mid.attached ≡ detached_by (said_of_detach r) u from.attached
   pub disk : mid.disk ≡ buffer_left (said_of_detach r) u from.disk
-  pub files : mid.files ≡ flush_files (failure_now stamp.time (subject.Unit u) (own_of stamp.time (fault_of_detach r))) u (attachment_at from.attached u) from.disk from.files
+  pub files : step → mid.files ≡ flush_files (failure_now stamp.time (subject.Unit u) (own_of stamp.time (fault_of_detach r))) u (attachment_at from.attached u) from.disk from.files
   pub of_unit : IfSome (fault_of_detach r) (λ (f : UnitFault). f.unit ≡ u)
   pub noted : after ≡ before ++ kept_of stamp (fault_of_detach r)
   pub counted : AreCounted (kept_of stamp (fault_of_detach r)) old new
@@ -105,63 +106,70 @@ by-fault (Err detach.NotAttached) f is = absurd (cc)
 by-fault (Err (detach.Failed g)) f is = cc
 
 -- its copy could not be written back: it keeps its file, and so do the others
-pub empties-kept : (stamp : Stamp) (u : UnitName) (us all : List UnitName) (from mid : Filed) (r : Result (Option UnitFault) DetachFault) (f : UnitFault) (before after : List FaultNote) (old new : FileState)
-    → all ≡ u ∷ us → flush_fault r ≡ Some f → Calls stamp u from mid r before after old new → Empties stamp.command stamp.time all from mid (Some f.unit) before after old new
-empties-kept stamp u us all from mid r f before after old new are kept calls =
+pub empties-kept : (step : Type 0) (stamp : Stamp) (u : UnitName) (us all : List UnitName) (from mid : Filed) (r : Result (Option UnitFault) DetachFault) (f : UnitFault) (before after : List FaultNote) (old new : FileState)
+    → all ≡ u ∷ us → flush_fault r ≡ Some f → Calls step stamp u from mid r before after old new → Empties step stamp.command stamp.time all from mid (Some f.unit) before after old new
+empties-kept step stamp u us all from mid r f before after old new are kept calls =
     let is = by-fault r f kept in
-    let P : List UnitName → Type 0 = λ x. Empties stamp.command stamp.time x from mid (Some f.unit) before after old new in
-    subst P (sym are) (of-failed (subst (λ (x : Result (Option UnitFault) DetachFault). Calls stamp u from mid x before after old new) is calls))
+    let P : List UnitName → Type 0 = λ x. Empties step stamp.command stamp.time x from mid (Some f.unit) before after old new in
+    subst P (sym are) (of-failed (subst (λ (x : Result (Option UnitFault) DetachFault). Calls step stamp u from mid x before after old new) is calls))
   where
-    of-failed : Calls stamp u from mid (Err (detach.Failed f)) before after old new → Empties stamp.command stamp.time (u ∷ us) from mid (Some f.unit) before after old new
+    of-failed : Calls step stamp u from mid (Err (detach.Failed f)) before after old new → Empties step stamp.command stamp.time (u ∷ us) from mid (Some f.unit) before after old new
     of-failed c =
         let own = own_note stamp.time f ∷ [] in
         let here : same_unit f.unit u ≡ true = ap (λ (x : UnitName). same_unit x u) c.of_unit ∙ same-self u in
-        let left : written_in (failure_now stamp.time (subject.Unit u) own) u from ≡ mid = λ i. record { attached = sym c.attached i; disk = sym c.disk i; files = sym c.files i } in
+        let writes : List NamedBytes → List NamedBytes = λ files. flush_files (failure_now stamp.time (subject.Unit u) own) u (attachment_at from.attached u) from.disk files in
+        let behind : (files : List NamedBytes) → written_in (failure_now stamp.time (subject.Unit u) own) u (record from { files = files }) ≡ record mid { files = writes files } =
+        λ files. λ i. record { attached = sym c.attached i; disk = sym c.disk i; files = writes files } in
         record {
           own = own;
           kept = fault_note stamp f ∷ [];
           added = c.noted;
           said = refl;
           among = (front (same_unit f.unit u) _ here, tt);
-          is = emptied-more stamp.time u us from own _ (StillHeld (failure_in f)) refl (sym c.said) ∙ (λ i. record { left = left i; used = 1; kept = Some (sym c.of_unit i) });
+          left = writes;
+          is = λ files. emptied-more stamp.time u us (record from { files = files }) own _ (StillHeld (failure_in f)) refl (sym c.said) ∙ (λ i. record { left = behind files i; used = 1; kept = Some (sym c.of_unit i) });
+          content = c.files;
           counted = c.counted;
           all = c.all;
         }
 
 -- it has none behind that, and the others follow
-pub empties-more : (stamp : Stamp) (u : UnitName) (us all : List UnitName) (from mid to : Filed) (r : Result (Option UnitFault) DetachFault) (kept_by : Option UnitName)
+pub empties-more : (step later : Type 0) (stamp : Stamp) (u : UnitName) (us all : List UnitName) (from mid to : Filed) (r : Result (Option UnitFault) DetachFault) (kept_by : Option UnitName)
     (before between after : List FaultNote) (s1 s2 s3 : FileState) → all ≡ u ∷ us → AllByRecursion (λ (v : UnitName). same_unit u v ≡ false) us
-    → flush_fault r ≡ None → Calls stamp u from mid r before between s1 s2
-    → Empties stamp.command stamp.time us mid to kept_by between after s2 s3 → Empties stamp.command stamp.time all from to kept_by before after s1 s3
-empties-more stamp u us all from mid to r kept_by before between after s1 s2 s3 are apart goes calls rest =
-    let P : List UnitName → Type 0 = λ x. Empties stamp.command stamp.time x from to kept_by before after s1 s3 in
+    → flush_fault r ≡ None → (step → later) → Calls step stamp u from mid r before between s1 s2
+    → Empties later stamp.command stamp.time us mid to kept_by between after s2 s3 → Empties step stamp.command stamp.time all from to kept_by before after s1 s3
+empties-more step later stamp u us all from mid to r kept_by before between after s1 s2 s3 are apart goes next calls rest =
+    let P : List UnitName → Type 0 = λ x. Empties step stamp.command stamp.time x from to kept_by before after s1 s3 in
     subst P (sym are) (by-answer r goes calls)
   where
     time : ℕ
     time = stamp.time
 
-    mid-is : (fault : Option Failure) (said : DetachSaid) → said ≡ said_in fault u from → mid.attached ≡ detached_by said u from.attached → mid.disk ≡ buffer_left said u from.disk
-        → mid.files ≡ flush_files fault u (attachment_at from.attached u) from.disk from.files → ((f : Failure) → said ≡ StillHeld f → ⊥) → without_file fault u from ≡ mid
-    mid-is fault (StillHeld f) says attached disk files other = absurd (other f refl)
-    mid-is fault HadNone says attached disk files other =
-        λ i. record { attached = sym attached i; disk = (sym (disk ∙ ap (λ (x : DetachSaid). buffer_left x u from.disk) says)) i; files = sym files i }
-    mid-is fault (Detached f) says attached disk files other =
-        λ i. record { attached = sym attached i; disk = (sym (disk ∙ ap (λ (x : DetachSaid). buffer_left x u from.disk) says)) i; files = sym files i }
+    writes : Option Failure → List NamedBytes → List NamedBytes
+    writes fault files = flush_files fault u (attachment_at from.attached u) from.disk files
 
-    joined : (r : Result (Option UnitFault) DetachFault) → Calls stamp u from mid r before between s1 s2 → after ≡ before ++ (kept_of stamp (fault_of_detach r) ++ rest.kept)
+    mid-is : (fault : Option Failure) (said : DetachSaid) → said ≡ said_in fault u from → mid.attached ≡ detached_by said u from.attached → mid.disk ≡ buffer_left said u from.disk
+        → ((f : Failure) → said ≡ StillHeld f → ⊥) → (files : List NamedBytes) → without_file fault u (record from { files = files }) ≡ record mid { files = writes fault files }
+    mid-is fault (StillHeld f) says attached disk other files = absurd (other f refl)
+    mid-is fault HadNone says attached disk other files =
+        λ i. record { attached = sym attached i; disk = (sym (disk ∙ ap (λ (x : DetachSaid). buffer_left x u from.disk) says)) i; files = writes fault files }
+    mid-is fault (Detached f) says attached disk other files =
+        λ i. record { attached = sym attached i; disk = (sym (disk ∙ ap (λ (x : DetachSaid). buffer_left x u from.disk) says)) i; files = writes fault files }
+
+    joined : (r : Result (Option UnitFault) DetachFault) → Calls step stamp u from mid r before between s1 s2 → after ≡ before ++ (kept_of stamp (fault_of_detach r) ++ rest.kept)
     joined r c = rest.added ∙ ap (λ (l : List FaultNote). l ++ rest.kept) c.noted ∙ append_assoc before (kept_of stamp (fault_of_detach r)) rest.kept
 
     quiet : failure_now time (subject.Unit u) rest.own ≡ None
     quiet = not-this time u us rest.own apart rest.among
 
     -- a unit without a note of its own
-    of-quiet : (r : Result (Option UnitFault) DetachFault) → fault_of_detach r ≡ None → Calls stamp u from mid r before between s1 s2
-        → ((rest_of : List CommandNote → Emptied) → emptied_as (said_of_detach r) u (written_in None u from) rest_of rest.own ≡ rest_of rest.own)
-        → ((f : Failure) → said_of_detach r ≡ StillHeld f → ⊥) → Empties stamp.command time (u ∷ us) from to kept_by before after s1 s3
+    of-quiet : (r : Result (Option UnitFault) DetachFault) → fault_of_detach r ≡ None → Calls step stamp u from mid r before between s1 s2
+        → ((rest_of : List CommandNote → Emptied) (files : List NamedBytes) → emptied_as (said_of_detach r) u (written_in None u (record from { files = files })) rest_of rest.own ≡ rest_of rest.own)
+        → ((f : Failure) → said_of_detach r ≡ StillHeld f → ⊥) → Empties step stamp.command time (u ∷ us) from to kept_by before after s1 s3
     of-quiet r none c follows other =
         let says : said_of_detach r ≡ said_in None u from = c.said ∙ ap (λ (o : Option UnitFault). said_in (failure_now time (subject.Unit u) (own_of time o)) u from) none in
-        let files = c.files ∙ ap (λ (o : Option UnitFault). flush_files (failure_now time (subject.Unit u) (own_of time o)) u (attachment_at from.attached u) from.disk from.files) none in
-        let same = mid-is None (said_of_detach r) says c.attached c.disk files other in
+        let left : step → mid.files ≡ writes None from.files = λ in_step. c.files in_step ∙ ap (λ (o : Option UnitFault). writes (failure_now time (subject.Unit u) (own_of time o)) from.files) none in
+        let same = mid-is None (said_of_detach r) says c.attached c.disk other in
         let kept_is : kept_of stamp (fault_of_detach r) ≡ [] = ap (kept_of stamp) none in
         record {
           own = rest.own;
@@ -169,26 +177,32 @@ empties-more stamp u us all from mid to r kept_by before between after s1 s2 s3 
           added = joined r c ∙ ap (λ (l : List FaultNote). before ++ (l ++ rest.kept)) kept_is;
           said = rest.said;
           among = wider u us rest.own rest.among;
-          is = emptied-more time u us from rest.own None (said_of_detach r) quiet (sym says) ∙ follows (λ more. emptied time us (without_file None u from) more)
-              ∙ ap (λ (x : Filed). emptied time us x rest.own) same ∙ rest.is;
+          left = λ files. rest.left (writes None files);
+          is = λ files. emptied-more time u us (record from { files = files }) rest.own None (said_of_detach r) quiet (sym says)
+              ∙ follows (λ more. emptied time us (without_file None u (record from { files = files })) more) files
+              ∙ ap (λ (x : Filed). emptied time us x rest.own) (same files) ∙ rest.is (writes None files);
+          content = λ in_step. rest.content (next in_step) ∙ ap rest.left (left in_step);
           counted = subst (λ (l : List FaultNote). AreCounted (l ++ rest.kept) s1 s3) kept_is (counted-both (kept_of stamp (fault_of_detach r)) rest.kept s1 s2 s3 c.counted rest.counted);
           all = subst (λ (l : List FaultNote). AreAll (l ++ rest.kept) s1 s3) kept_is (all-both (kept_of stamp (fault_of_detach r)) rest.kept s1 s2 s3 c.all rest.all);
         }
 
-    of-noted : (f : UnitFault) → Calls stamp u from mid (Ok (Some f)) before between s1 s2 → Empties stamp.command time (u ∷ us) from to kept_by before after s1 s3
+    of-noted : (f : UnitFault) → Calls step stamp u from mid (Ok (Some f)) before between s1 s2 → Empties step stamp.command time (u ∷ us) from to kept_by before after s1 s3
     of-noted f c =
         let own = own_note time f ∷ rest.own in
         let here : same_unit f.unit u ≡ true = ap (λ (x : UnitName). same_unit x u) c.of_unit ∙ same-self u in
         let fault = failure_now time (subject.Unit u) (own_of time (Some f)) in
-        let same = mid-is fault (Detached (Some (failure_in f))) c.said c.attached c.disk c.files (λ g is. absurd (cc)) in
+        let same = mid-is fault (Detached (Some (failure_in f))) c.said c.attached c.disk (λ g is. absurd (cc)) in
         record {
           own = own;
           kept = fault_note stamp f ∷ rest.kept;
           added = joined (Ok (Some f)) c;
           said = ap (λ (l : List Note). said_of (fault_note stamp f) ∷ l) rest.said;
           among = (front (same_unit f.unit u) _ here, wider u us rest.own rest.among);
-          is = emptied-more time u us from own fault (Detached (Some (failure_in f))) refl (sym c.said)
-              ∙ ap (λ (x : Filed). more_used 1 (emptied time us x rest.own)) same ∙ ap (more_used 1) rest.is ∙ (λ i. record { left = to; used = one-more (length rest.own) i; kept = kept_by });
+          left = λ files. rest.left (writes fault files);
+          is = λ files. emptied-more time u us (record from { files = files }) own fault (Detached (Some (failure_in f))) refl (sym c.said)
+              ∙ ap (λ (x : Filed). more_used 1 (emptied time us x rest.own)) (same files) ∙ ap (more_used 1) (rest.is (writes fault files))
+              ∙ (λ i. record { left = record to { files = rest.left (writes fault files) }; used = one-more (length rest.own) i; kept = kept_by });
+          content = λ in_step. rest.content (next in_step) ∙ ap rest.left (c.files in_step);
           counted = counted-both (kept_of stamp (Some f)) rest.kept s1 s2 s3 c.counted rest.counted;
           all = all-both (kept_of stamp (Some f)) rest.kept s1 s2 s3 c.all rest.all;
         }
@@ -196,10 +210,10 @@ empties-more stamp u us all from mid to r kept_by before between after s1 s2 s3 
         one-more : (n : ℕ) → 1 + n ≡ suc n
         one-more n = omega arith
 
-    by-answer : (r : Result (Option UnitFault) DetachFault) → flush_fault r ≡ None → Calls stamp u from mid r before between s1 s2
-        → Empties stamp.command time (u ∷ us) from to kept_by before after s1 s3
-    by-answer (Ok None) goes c = of-quiet (Ok None) refl c (λ rest_of. refl) (λ f is. absurd (cc))
-    by-answer (Err detach.NotAttached) goes c = of-quiet (Err detach.NotAttached) refl c (λ rest_of. refl) (λ f is. absurd (cc))
+    by-answer : (r : Result (Option UnitFault) DetachFault) → flush_fault r ≡ None → Calls step stamp u from mid r before between s1 s2
+        → Empties step stamp.command time (u ∷ us) from to kept_by before after s1 s3
+    by-answer (Ok None) goes c = of-quiet (Ok None) refl c (λ rest_of files. refl) (λ f is. absurd (cc))
+    by-answer (Err detach.NotAttached) goes c = of-quiet (Err detach.NotAttached) refl c (λ rest_of files. refl) (λ f is. absurd (cc))
     by-answer (Err (detach.Failed f)) goes c = absurd (cc)
     by-answer (Ok (Some f)) goes c = of-noted f c
 

@@ -101,14 +101,17 @@ keeper (Err f) = Some f.unit
 abbrev pub is_one_of : List UnitName → CommandNote → Bool
 is_one_of us n = list_any (λ (u : UnitName). same_subject n.subject (subject.Unit u)) us
 
--- the notes that were kept in it: it uses all of them, and they are counted; and what stands behind it
-pub record Empties (number time : ℕ) (us : List UnitName) (from to : Filed) (kept_by : Option UnitName) (before after : List FaultNote) (old new : FileState) : Type 0 where
+-- The notes that were kept in it: it uses all of them, and they are counted; and what stands behind it. What it makes of files is
+-- said for any files, and the files behind it are that where the disk's file was in step with the copy of it.
+pub record Empties (step : Type 0) (number time : ℕ) (us : List UnitName) (from to : Filed) (kept_by : Option UnitName) (before after : List FaultNote) (old new : FileState) : Type 0 where
   pub own : List CommandNote
   pub kept : List FaultNote
   pub added : after ≡ before ++ kept
   pub said : notes_said kept ≡ numbered number own
   pub among : AllByRecursion (λ (n : CommandNote). IsTrue (is_one_of us n)) own
-  pub is : emptied time us from own ≡ record { left = to; used = length own; kept = kept_by }
+  pub left : List NamedBytes → List NamedBytes
+  pub is : (files : List NamedBytes) → emptied time us (record from { files = files }) own ≡ record { left = record to { files = left files }; used = length own; kept = kept_by }
+  pub content : step → to.files ≡ left from.files
   pub counted : AreCounted kept old new
   pub all : AreAll kept old new
 

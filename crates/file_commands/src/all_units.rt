@@ -1,6 +1,7 @@
 ghost use Rattle.std.specs.Prelude.{◌≡◌, ◌+◌, ◌≤◌, List, All, IsTrue, IfErr, IsOk, OnErr, length, vec_len, vec_capacity};
 ghost use Rattle.file_traits.specs.State.{Opened};
 ghost use Rattle.unit_files.specs.Attachments.{takes_attachment, is_disk};
+ghost use Rattle.unit_files.specs.InStep.{InStep};
 ghost use Rattle.unit_files.specs.Open.{AllOpen, Around};
 ghost use Rattle.file_commands.specs.OwnFiles.{AreOwn};
 ghost use Rattle.file_commands.specs.AllUnits.{AreApart, AreNoDisk, IsDiskFirst, attachable, Empties, IsUnwritten, keeper, filed_of, flush_fault};
@@ -75,9 +76,10 @@ pub fn detach_all<F: Files>(
 ) -> Result<(), UnitFault>
     requires open { AllOpen attached.old.slots (F.state files.old).opened }
     requires room { vec_len notes.old + 12 ≤ vec_capacity notes.old }
-    ensures empties { Empties stamp.command stamp.time attachable (filed_of attached.old (F.state files.old).files)
+    ensures empties { Empties (InStep attached.old (F.state files.old).files) stamp.command stamp.time attachable (filed_of attached.old (F.state files.old).files)
         (filed_of attached.new (F.state files.new).files) (keeper result) notes.old.items notes.new.items
         (F.state files.old) (F.state files.new) }
+    ensures step { InStep attached.old (F.state files.old).files → InStep attached.new (F.state files.new).files }
     ensures refused { OnErr result (attached.new ≡ attached.old) }
     ensures disk { IfErr result (λ f. IsTrue (is_disk f.unit.kind)) }
     ensures cause { OnErr result (IsUnwritten attached.new.slots notes.new.items (F.state files.old) (F.state files.new)) }
@@ -105,10 +107,11 @@ fn detach_each<F: Files>(
     requires first { IsDiskFirst units.now }
     requires open { AllOpen attached.old.slots (F.state files.old).opened }
     requires room { vec_len notes.old + length units.now ≤ vec_capacity notes.old }
-    ensures empties { Empties stamp.command stamp.time units.now (filed_of attached.old (F.state files.old).files)
+    ensures empties { Empties (InStep attached.old (F.state files.old).files) stamp.command stamp.time units.now (filed_of attached.old (F.state files.old).files)
         (filed_of attached.new (F.state files.new).files) (keeper result) notes.old.items notes.new.items
         (F.state files.old) (F.state files.new) }
     ensures never { AreNoDisk units.now → IsOk result }
+    ensures step { InStep attached.old (F.state files.old).files → InStep attached.new (F.state files.new).files }
     ensures refused { OnErr result (attached.new ≡ attached.old) }
     ensures disk { IfErr result (λ f. IsTrue (is_disk f.unit.kind)) }
     ensures cause { OnErr result (IsUnwritten attached.new.slots notes.new.items (F.state files.old) (F.state files.new)) }

@@ -1,9 +1,10 @@
-ghost use Rattle.std.specs.Prelude.{◌≡◌, ◌<◌, ◌≤◌, ◌+◌, ◌++◌, true, false, is_some, List, IsTrue, IfOk, IfSome, OnErr, vec_len, vec_capacity};
+ghost use Rattle.std.specs.Prelude.{◌≡◌, ◌<◌, ◌≤◌, ◌+◌, ◌++◌, true, false, is_some, List, IsTrue, IfOk, IfSome, OnOk, OnErr, vec_len, vec_capacity};
 ghost use Rattle.file_traits.specs.State.{Opened};
 ghost use Rattle.file_traits.specs.Lists.{bytes_of};
 ghost use Rattle.unit_files.specs.Attachments.{attachments_of, attachment_at, takes_attachment, longest_file, is_disk, IsFileName};
 ghost use Rattle.unit_files.specs.Acts.{attach_said, attach_files, attached_by, buffer_by, refused_first};
 ghost use Rattle.unit_files.specs.Acts.{detach_said, detached_by, buffer_left, flush_files};
+ghost use Rattle.unit_files.specs.InStep.{InStep, marks_left};
 ghost use Rattle.unit_files.specs.Causes.{AttachCause, CountsAttach, DetachCause};
 ghost use Rattle.unit_files.specs.Answers.{said_of_attach, said_of_detach, first_refusal, IfNoMemory};
 ghost use Rattle.unit_files.specs.Open.{AllOpen, Around};
@@ -47,7 +48,9 @@ pub fn attach_unit<F: Files>(
         ≡ buffer_by said unit (bytes_of (F.state files.new).files name.now) attached.old.disk) }
     ensures there { IfOk result (λ n. IsTrue (is_some (attachment_at (attachments_of attached.new.slots) unit))) }
     ensures unwritten { IfOk result (λ n. is_disk unit.kind ≡ true → attached.new.disk.written ≡ false) }
+    ensures step { IsTrue F.tells → OnOk result (is_disk unit.kind ≡ true → InStep attached.new (F.state files.new).files) }
     ensures other { is_disk unit.kind ≡ false → attached.new.disk ≡ attached.old.disk }
+    ensures other_marks { is_disk unit.kind ≡ false → attached.new.marks ≡ attached.old.marks }
     ensures refused { OnErr result (attached.new ≡ attached.old) }
     ensures files { IsTrue F.tells → IfSome (said_of_attach result) (λ said. (F.state files.new).files
         ≡ attach_files (failure_now stamp.time (subjects.Unit unit) (own_of stamp.time (fault_of_attach result))) mode unit
@@ -95,8 +98,10 @@ pub fn detach_unit<F: Files>(
     ensures attached { attachments_of attached.new.slots
         ≡ detached_by (said_of_detach result) unit (attachments_of attached.old.slots) }
     ensures disk { attached.new.disk ≡ buffer_left (said_of_detach result) unit attached.old.disk }
+    ensures marks { attached.new.marks ≡ marks_left (said_of_detach result) unit attached.old.marks }
+    ensures step { InStep attached.old (F.state files.old).files → InStep attached.new (F.state files.new).files }
     ensures refused { OnErr result (attached.new ≡ attached.old) }
-    ensures files { (F.state files.new).files ≡ flush_files
+    ensures files { InStep attached.old (F.state files.old).files → (F.state files.new).files ≡ flush_files
         (failure_now stamp.time (subjects.Unit unit) (own_of stamp.time (fault_of_detach result))) unit
         (attachment_at (attachments_of attached.old.slots) unit) attached.old.disk (F.state files.old).files }
     ensures notes { notes.new.items ≡ notes.old.items ++ kept_of stamp (fault_of_detach result) }

@@ -29,13 +29,13 @@ past notes live status number is high =
     let large : nat_le (unwrap_or status 0) 99 ≡ false = grind (arith, nat_tests) in
     ap (λ (b : Bool). if b then emptied_reply (Exit (unwrap_or status 0)) (emptied_all notes live) live else refused OutOfRange live) large
 
-pub exit-did : (status : Option ℕ) (code number : ℕ) (live new : Live) (k : Option UnitName) (tells : Bool) (text : Output) (notes notes' : List Note)
-    → code ≡ unwrap_or status 0 → code ≤ 99 → Closes number live new k notes notes'
+pub exit-did : (step : Type 0) (status : Option ℕ) (code number : ℕ) (live new : Live) (k : Option UnitName) (tells : Bool) (text : Output) (notes notes' : List Note)
+    → code ≡ unwrap_or status 0 → code ≤ 99 → Closes step number live new k notes notes' → step
     → Did (λ (own : List CommandNote). exit_reply own live status) number (kept_answer k (Exit code)) new tells text text notes notes'
-exit-did status code number live new k tells text notes notes' is low closes =
+exit-did step status code number live new k tells text notes notes' is low closes steps =
     subst (λ (reply : List CommandNote → Reply). Did reply number (kept_answer k (Exit code)) new tells text text notes notes')
     (λ i own. sym (within own live status code is low) i)
-    (all-did (Exit code) number live new k tells text notes notes' refl (λ at reply both. both) closes)
+    (all-did step (Exit code) number live new k tells text notes notes' refl (λ at reply both. both) closes steps)
 
 pub exit-refused : (status : Option ℕ) (code number : ℕ) (live : Live) (tells : Bool) (text : Output) (notes : List Note)
     → code ≡ unwrap_or status 0 → 99 < code → Did (λ (own : List CommandNote). exit_reply own live status) number (Err OutOfRange) live tells text text notes notes

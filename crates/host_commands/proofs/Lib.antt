@@ -7,6 +7,7 @@ pub mod DoLemmas
 pub mod ExitLemmas
 pub mod PortCommands
 pub mod TapeLemmas
+pub mod StepLemmas
 pub mod HostAnswers
 pub mod NamedLemmas
 pub mod HostLemmas

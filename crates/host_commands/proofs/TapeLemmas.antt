@@ -20,7 +20,7 @@ use Rattle.whole_files.specs.Whole.{WholeSaid, whole_act}
 use Rattle.whole_files.specs.Writing.{write_act}
 use Rattle.whole_files.specs.Claims.{said_of, said_of_bytes, claimed}
 use Rattle.expect_actions.specs.Watch.{WatchState}
-use Rattle.nova_machine.specs.Machine.{MachineState}
+use Rattle.nova_machine.specs.Machine.{MachineState, attached_files}
 use Rattle.nova_machine.specs.Seen.{erased, seen, beside}
 use Rattle.nova_machine.specs.Turn.{with_memory}
 use Rattle.nova_machine.specs.Comes.{Output}
@@ -140,6 +140,19 @@ read-lines (Err why) m = refl
 pub read-slots : (bytes : Result (Vec ℕ) WholeFault) (m : MachineState) → (read_machine bytes m).slots ≡ m.slots
 read-slots (Ok v) m = tape-slots (tape_in m v.items) m
 read-slots (Err why) m = refl
+
+-- what the disk holds of its file stands
+started-files : (start : Option ℕ) (m : MachineState) → attached_files (starting_at start m) ≡ attached_files m
+started-files None m = refl
+started-files (Some at) m = refl
+
+tape-files : (r : Result Tape LoadFault) (m : MachineState) → attached_files (tape_machine r m) ≡ attached_files m
+tape-files (Ok says) m = started-files says.start _
+tape-files (Err fault) m = refl
+
+pub read-attached : (bytes : Result (Vec ℕ) WholeFault) (m : MachineState) → attached_files (read_machine bytes m) ≡ attached_files m
+read-attached (Ok v) m = tape-files (tape_in m v.items) m
+read-attached (Err why) m = refl
 
 pub read-time : (bytes : Result (Vec ℕ) WholeFault) (m : MachineState) → (read_machine bytes m).time ≡ m.time
 read-time (Ok v) m = tape-time (tape_in m v.items) m

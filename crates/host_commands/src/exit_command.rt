@@ -2,14 +2,17 @@
 ghost use Rattle.std.specs.Prelude.{◌≡◌, ◌≤◌, Bool, List};
 ghost use Rattle.file_traits.specs.State.{Opened};
 ghost use Rattle.unit_list.specs.Bus.{kinds_of};
+ghost use Rattle.unit_files.specs.InStep.{InStep};
 ghost use Rattle.unit_files.specs.Open.{AllOpen, Around};
 ghost use Rattle.file_commands.specs.OwnFiles.{AreOwn};
 ghost use Rattle.file_commands.specs.Notes.{notes_said};
 ghost use Rattle.host_lines.specs.Traffic.{Answer as LineAnswer};
+ghost use Rattle.nova_machine.specs.Machine.{attached_files};
 ghost use Rattle.nova_machine.specs.Comes.{Output};
 ghost use Rattle.nova_machine.specs.LineChanges.{AreLinesTold};
 ghost use Rattle.command_session.specs.Live.{live_in, beyond};
 ghost use Rattle.command_session.specs.ExitEffects.{exit_reply, status_fits};
+ghost use Rattle.command_session.specs.DiskFile.{StaysInStep};
 ghost use Rattle.command_session.specs.LinesLeft.{LinesLeft};
 ghost use Rattle.command_session.specs.PortAnswers.{ClosesAll};
 ghost use Rattle.command_session.specs.Answers.{IsByTables, OfExit, out_of_range};
@@ -35,12 +38,14 @@ pub fn exit<U: Unit, F: Files, L: Lines>(
     ensures refused { IsRefused result
         → (session.new.machine ≡ session.old.machine) × (session.new.watch ≡ session.old.watch) }
     ensures told { AreLinesTold L.tells (L.state lines.old) session.old.machine.lines
+        → InStep (attached_files session.old.machine) (F.state files.old).files
         → (whole : List LineAnswer) (tells : Bool) (text : Output)
         → Did (λ notes. exit_reply notes
         (live_in session.old (beyond (F.state files.old).files (L.state lines.old) whole)) status)
         session.old.command result
         (live_in session.new (beyond (F.state files.new).files (L.state lines.new) whole)) tells text text
         (notes_said session.old.notes) (notes_said session.new.notes) }
+    ensures step { StaysInStep session.old session.new (F.state files.old).files (F.state files.new).files }
     ensures keeps { Keeps session.old.command session.new.machine.time F.tells result session.old.notes
         session.new.notes (F.state files.old) (F.state files.new) }
     ensures whose { AreOwn session.old.machine.slots session.new.machine.slots session.old.notes session.new.notes

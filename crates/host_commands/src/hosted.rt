@@ -2,15 +2,18 @@
 ghost use Rattle.std.specs.Prelude.{◌≡◌, ◌≢◌, ◌≤◌, ℕ, Bool, List, Err};
 ghost use Rattle.file_traits.specs.State.{Opened};
 ghost use Rattle.unit_list.specs.Bus.{kinds_of};
+ghost use Rattle.unit_files.specs.InStep.{InStep};
 ghost use Rattle.unit_files.specs.Open.{AllOpen, Around};
 ghost use Rattle.file_commands.specs.OwnFiles.{AreOwn};
 ghost use Rattle.file_commands.specs.Notes.{notes_said};
 ghost use Rattle.host_lines.specs.Traffic.{Answer as LineAnswer};
 ghost use Rattle.host_lines.specs.Told.{IsFirst, record_in};
+ghost use Rattle.nova_machine.specs.Machine.{attached_files};
 ghost use Rattle.nova_machine.specs.Comes.{output};
 ghost use Rattle.command_session.specs.declared.fault.CommandFault.TheVariants.{OutOfMemory};
 ghost use Rattle.command_session.specs.Live.{live_in, beyond};
 ghost use Rattle.command_session.specs.Nature.{nature};
+ghost use Rattle.command_session.specs.DiskFile.{StaysWhereAlone};
 ghost use Rattle.command_session.specs.LinesLeft.{LinesLeft, IsUnlistened, ListenCause};
 ghost use Rattle.command_session.specs.Refusals.{IsUnrefused, IsMeasured};
 ghost use Rattle.command_session.specs.Answers.{AnswersByTables, CanAnswer};
@@ -45,13 +48,16 @@ pub fn obey_host<U: Unit, F: Files, L: Lines>(
     ensures refused { IsRefused result
         → (session.new.machine ≡ session.old.machine) × (session.new.watch ≡ session.old.watch) }
     ensures told { IsTold F.tells session.old.machine.slots L.tells (L.state lines.old) session.old.machine.lines
-        command.now → (whole : List LineAnswer) → IsFirst (record_in (L.state lines.new).told) whole
+        command.now → InStep (attached_files session.old.machine) (F.state files.old).files
+        → (whole : List LineAnswer) → IsFirst (record_in (L.state lines.new).told) whole
         → (tells : Bool) (text : List ℕ)
         → Did (λ notes. host_effect notes
         (live_in session.old (beyond (F.state files.old).files (L.state lines.old) whole)) command.now)
         session.old.command result (live_in session.new (beyond (F.state files.new).files (L.state lines.new) whole))
         tells (output text (L.state lines.old).sent) (output text (L.state lines.new).sent)
         (notes_said session.old.notes) (notes_said session.new.notes) }
+    ensures step { IsTold F.tells session.old.machine.slots L.tells (L.state lines.old) session.old.machine.lines
+        command.now → StaysWhereAlone session.old session.new (F.state files.old).files (F.state files.new).files }
     ensures lines { LinesLeft L.tells (L.state lines.old) session.old.machine.lines (L.state lines.new)
         session.new.machine.lines }
     ensures unasked { IsRefused result → (IsUnlistened command.now result → ⊥) → lines.new ≡ lines.old }

@@ -9,6 +9,7 @@ ghost use Rattle.telnet_lines.specs.Many.{AreApart};
 ghost use Rattle.unit_trait.specs.declared.kind.Kind.TheVariants.{Tti1};
 ghost use Rattle.scp_parser.specs.Command.{AttachPort};
 ghost use Rattle.unit_list.specs.Bus.{kinds_of};
+ghost use Rattle.nova_machine.specs.Machine.{attached_files};
 ghost use Rattle.nova_machine.specs.Comes.{Output};
 ghost use Rattle.nova_machine.specs.LineChanges.{AreLinesTold};
 ghost use Rattle.command_session.specs.declared.fault.CommandFault.TheVariants.{OutOfMemory};
@@ -54,6 +55,7 @@ pub fn attach_port<U: Unit, L: Lines>(
     ensures exit { IsExitAnswer result }
     ensures rest { session.new ≡ record session.old { machine = session.new.machine } }
     ensures kinds { kinds_of session.new.machine.units ≡ kinds_of session.old.machine.units }
+    ensures attached { attached_files session.new.machine ≡ attached_files session.old.machine }
     ensures slots { session.new.machine.slots ≡ session.old.machine.slots }
     ensures time { session.new.machine.time ≡ session.old.machine.time }
 {
@@ -86,6 +88,7 @@ pub fn detach_port<U: Unit, L: Lines>(
     ensures exit { IsExitAnswer result }
     ensures rest { session.new ≡ record session.old { machine = session.new.machine } }
     ensures kinds { kinds_of session.new.machine.units ≡ kinds_of session.old.machine.units }
+    ensures attached { attached_files session.new.machine ≡ attached_files session.old.machine }
     ensures slots { session.new.machine.slots ≡ session.old.machine.slots }
     ensures time { session.new.machine.time ≡ session.old.machine.time }
 {
@@ -119,6 +122,7 @@ pub fn disconnect<U: Unit, L: Lines>(
     ensures exit { IsExitAnswer result }
     ensures rest { session.new ≡ record session.old { machine = session.new.machine } }
     ensures kinds { kinds_of session.new.machine.units ≡ kinds_of session.old.machine.units }
+    ensures attached { attached_files session.new.machine ≡ attached_files session.old.machine }
     ensures slots { session.new.machine.slots ≡ session.old.machine.slots }
     ensures time { session.new.machine.time ≡ session.old.machine.time }
 {

@@ -8,6 +8,7 @@ ghost use Rattle.file_commands.specs.OwnFiles.{AreOwn};
 ghost use Rattle.file_commands.specs.Notes.{notes_said};
 ghost use Rattle.host_lines.specs.Traffic.{Answer as LineAnswer};
 ghost use Rattle.host_lines.specs.State.{LineState};
+ghost use Rattle.nova_machine.specs.Machine.{attached_files};
 ghost use Rattle.nova_machine.specs.Comes.{Output};
 ghost use Rattle.command_session.specs.declared.fault.CommandFault.TheVariants.{OutOfMemory};
 ghost use Rattle.command_session.specs.Live.{live_in, beyond};
@@ -60,6 +61,7 @@ pub fn load_file<U: Unit, F: Files>(
     ensures whole { UnreadCause F.tells name.now result (F.state files.old) (F.state files.new) }
     ensures answers { OfLoad result }
     ensures works { LoadWorks result session.old.machine session.new.machine (F.state files.old) (F.state files.new) }
+    ensures attached { attached_files session.new.machine ≡ attached_files session.old.machine }
     ensures own { IsOwn result }
     ensures exit { IsExitAnswer result }
     ensures watch { session.new.watch ≡ session.old.watch }

@@ -4,11 +4,13 @@ ghost use Rattle.file_traits.specs.State.{Opened};
 ghost use Rattle.unit_trait.specs.Kinds.{units_of, code_of};
 ghost use Rattle.unit_list.specs.Bus.{unit_at, kinds_of};
 ghost use Rattle.unit_files.specs.Attachments.{IsFileName};
+ghost use Rattle.unit_files.specs.InStep.{InStep};
 ghost use Rattle.unit_files.specs.Open.{AllOpen, Around};
 ghost use Rattle.file_commands.specs.OwnFiles.{AreOwn};
 ghost use Rattle.file_commands.specs.Notes.{notes_said};
 ghost use Rattle.host_lines.specs.Traffic.{Answer as LineAnswer};
 ghost use Rattle.host_lines.specs.State.{LineState};
+ghost use Rattle.nova_machine.specs.Machine.{attached_files};
 ghost use Rattle.nova_machine.specs.Comes.{Output};
 ghost use Rattle.nova_machine.specs.LineChanges.{AreLinesTold};
 ghost use Rattle.command_session.specs.declared.fault.CommandFault.TheVariants.{OutOfMemory};
@@ -20,6 +22,7 @@ ghost use Rattle.scp_parser.specs.Command.{Attach, Detach};
 ghost use Rattle.command_session.specs.Refusals.{IsUnrefused, WasOpened};
 ghost use Rattle.command_session.specs.Answers.{IsByTables, AnswersByTables, OfAttach, OfDetach, OfDetachAll, attach_refusal};
 ghost use Rattle.command_session.specs.FileWorks.{AttachWorks};
+ghost use Rattle.command_session.specs.DiskFile.{StaysInStep, StaysWhereAlone};
 ghost use Rattle.command_session.specs.LinesLeft.{LinesLeft};
 ghost use Rattle.command_session.specs.PortAnswers.{DetachesUnit, ClosesAll};
 ghost use Rattle.command_session.specs.Doing.{Did, IsTold, OpensForUnit, Keeps, KeepsAs, IsUndone, IsOwn, IsPlain, IsExitAnswer, IsRefused, AttachNote};
@@ -55,6 +58,8 @@ pub fn attach<U: Unit, F: Files>(
         option unit name.now) session.old.command result
         (live_in session.new (beyond (F.state files.new).files lines whole)) tells text text
         (notes_said session.old.notes) (notes_said session.new.notes) }
+    ensures step { IsTrue F.tells
+        → StaysWhereAlone session.old session.new (F.state files.old).files (F.state files.new).files }
     ensures undone { (text : List ℕ) → result ≡ Err OutOfMemory
         → IsUndone false None true session.old session.new text text (F.state files.old) (F.state files.new) }
     ensures unrefused { result ≡ Err OutOfMemory
@@ -119,11 +124,13 @@ pub fn detach_one_or_every<U: Unit, F: Files, L: Lines>(
     ensures refused { IsRefused result
         → (session.new.machine ≡ session.old.machine) × (session.new.watch ≡ session.old.watch) }
     ensures told { IsTold F.tells session.old.machine.slots L.tells (L.state lines.old) session.old.machine.lines
-        (Detach unit) → (whole : List LineAnswer) (tells : Bool) (text : Output)
+        (Detach unit) → InStep (attached_files session.old.machine) (F.state files.old).files
+        → (whole : List LineAnswer) (tells : Bool) (text : Output)
         → Did (λ notes. detach_one_or_all notes
         (live_in session.old (beyond (F.state files.old).files (L.state lines.old) whole)) unit) session.old.command
         result (live_in session.new (beyond (F.state files.new).files (L.state lines.new) whole)) tells text text
         (notes_said session.old.notes) (notes_said session.new.notes) }
+    ensures step { StaysInStep session.old session.new (F.state files.old).files (F.state files.new).files }
     ensures keeps { Keeps session.old.command session.new.machine.time F.tells result session.old.notes
         session.new.notes (F.state files.old) (F.state files.new) }
     ensures whose { AreOwn session.old.machine.slots session.new.machine.slots session.old.notes session.new.notes
@@ -166,10 +173,12 @@ fn detach<U: Unit, F: Files>(
     requires open { AllOpen session.old.machine.slots (F.state files.old).opened }
     ensures refused { IsRefused result
         → (session.new.machine ≡ session.old.machine) × (session.new.watch ≡ session.old.watch) }
-    ensures told { (lines : LineState) (whole : List LineAnswer) (tells : Bool) (text : Output)
+    ensures told { InStep (attached_files session.old.machine) (F.state files.old).files
+        → (lines : LineState) (whole : List LineAnswer) (tells : Bool) (text : Output)
         → Did (λ notes. detach_reply notes (live_in session.old (beyond (F.state files.old).files lines whole)) unit)
         session.old.command result (live_in session.new (beyond (F.state files.new).files lines whole)) tells text text
         (notes_said session.old.notes) (notes_said session.new.notes) }
+    ensures step { StaysInStep session.old session.new (F.state files.old).files (F.state files.new).files }
     ensures keeps { Keeps session.old.command session.new.machine.time F.tells result session.old.notes
         session.new.notes (F.state files.old) (F.state files.new) }
     ensures whose { AreOwn session.old.machine.slots session.new.machine.slots session.old.notes session.new.notes
@@ -214,11 +223,13 @@ fn detach_every<U: Unit, F: Files, L: Lines>(
     ensures refused { IsRefused result
         → (session.new.machine ≡ session.old.machine) × (session.new.watch ≡ session.old.watch) }
     ensures told { AreLinesTold L.tells (L.state lines.old) session.old.machine.lines
+        → InStep (attached_files session.old.machine) (F.state files.old).files
         → (whole : List LineAnswer) (tells : Bool) (text : Output)
         → Did (λ notes. detach_all_reply notes
         (live_in session.old (beyond (F.state files.old).files (L.state lines.old) whole))) session.old.command result
         (live_in session.new (beyond (F.state files.new).files (L.state lines.new) whole)) tells text text
         (notes_said session.old.notes) (notes_said session.new.notes) }
+    ensures step { StaysInStep session.old session.new (F.state files.old).files (F.state files.new).files }
     ensures keeps { Keeps session.old.command session.new.machine.time F.tells result session.old.notes
         session.new.notes (F.state files.old) (F.state files.new) }
     ensures whose { AreOwn session.old.machine.slots session.new.machine.slots session.old.notes session.new.notes

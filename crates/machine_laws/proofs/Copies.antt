@@ -25,7 +25,7 @@ use Rattle.unit_trait.proofs.EveryKind.{every-kind}
 use Rattle.unit_list.specs.Bus.{unit_at, row_or_nothing}
 use Rattle.unit_list.proofs.Room.{kind-found}
 use Rattle.unit_files.specs.Attachments.{Attachment, Held, attachments_of, attachment_at, file_place, kind_place, file_units}
-use Rattle.unit_files.specs.Buffer.{Buffer, disk_unit, with_sector, with_marks, sector_written}
+use Rattle.unit_files.specs.Buffer.{Buffer, disk_unit, with_sector, sector_written}
 use Rattle.unit_files.specs.Acts.{Failure, byte_written, write_files, most_bytes}
 use Rattle.nova_machine.specs.declared.machine.Stop.{Stop}
 use Rattle.nova_machine.specs.Machine.{MachineState}
@@ -165,7 +165,7 @@ copies-then s p goes_on first more = copies-followed s p.made p.stop p.after goe
 written-sector : (a : Option Attachment) (disk : Buffer) (n : ℕ) (piece : List ℕ) → (sector_written a disk n piece).written ≡ false → sector_written a disk n piece ≡ disk
 written-sector None disk n piece = λ _. refl
 written-sector (Some a) disk n piece =
-    cond_both a.read_only disk (record { bytes = with_sector disk.bytes n piece; written = true; marks = with_marks disk.bytes n disk.marks }) (λ (d : Buffer). d.written ≡ false → d ≡ disk) (λ _ _. refl) (λ _ h. absurd (cc))
+    cond_both a.read_only disk (record { bytes = with_sector disk.bytes n piece; written = true }) (λ (d : Buffer). d.written ≡ false → d ≡ disk) (λ _ _. refl) (λ _ h. absurd (cc))
 
 written-after : (a : Option Attachment) (m : MemoryState) (w : Want) (disk : Buffer) → (disk_after a m w disk).written ≡ false → disk_after a m w disk ≡ disk
 written-after a m (want.Sector true n from) disk = written-sector a disk n (bytes_got sector_words from m)

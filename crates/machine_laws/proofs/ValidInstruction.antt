@@ -67,7 +67,6 @@ with-processor m p now valid = record {
   places = valid.places;
   names = valid.names;
   disk = valid.disk;
-  unmarked = valid.unmarked;
 }
 
 on-processor : (f : ProcessorState → ProcessorState) → ((p : ProcessorState) → IsProcessor p → IsProcessor (f p)) → KeepsMachine (on_processor f)
@@ -85,7 +84,6 @@ with-ints m ints low valid = record {
     places = valid.places;
     names = valid.names;
     disk = valid.disk;
-    unmarked = valid.unmarked;
   };
   taken = refl;
 }
@@ -112,7 +110,6 @@ ticked-keeps m valid = record {
     places = valid.places;
     names = valid.names;
     disk = valid.disk;
-    unmarked = valid.unmarked;
   };
   taken = refl;
 }
@@ -181,7 +178,6 @@ asked_unit-keeps code word m valid =
         places = valid.places;
         names = valid.names;
         disk = valid.disk;
-        unmarked = valid.unmarked;
       };
       taken = refl;
     }
@@ -229,7 +225,6 @@ reset_devices-keeps m valid =
         places = valid.places;
         names = valid.names;
         disk = valid.disk;
-        unmarked = valid.unmarked;
       };
       taken = refl;
     }

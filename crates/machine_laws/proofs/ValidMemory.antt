@@ -1,5 +1,5 @@
 -- Memory stays memory where words are put into it, and what is taken from it is bytes.
-use Rattle.std.proofs.Common.{◌≡◌, ℕ, zero, suc, ◌+◌, ◌*◌, ◌^◌, ◌<◌, Bool, true, false, List, drop, Option, Some, None, sym, subst, arith, replicate, ◌++◌}
+use Rattle.std.proofs.Common.{ℕ, zero, suc, ◌+◌, ◌*◌, ◌^◌, ◌<◌, Bool, true, false, List, drop, Option, Some, None, sym, subst, arith, replicate, ◌++◌}
 use Rattle.std.proofs.lemmas.Bool.{cond_both}
 use Rattle.nova_memory.specs.Memory.{MemoryState, IsMemory, IsSize, get, put}
 use Rattle.nova_memory.proofs.Chains.{put-size}
@@ -7,7 +7,7 @@ use Rattle.nova_memory.proofs.Keeps.{put-memory, get-word}
 use Rattle.unit_trait.specs.declared.calls.Want.{Want}
 use Rattle.unit_trait.specs.declared.calls.Want.TheVariants as want
 use Rattle.unit_files.specs.Attachments.{Attachment}
-use Rattle.unit_files.specs.Buffer.{Buffer, no_marks, sector_bytes, sector_of, with_sector, with_marks, sector_written}
+use Rattle.unit_files.specs.Buffer.{Buffer, sector_bytes, sector_of, with_sector, sector_written}
 use Rattle.nova_machine.specs.Sectors.{memory_with, memory_after, disk_after}
 use Rattle.memory_transfer.specs.Words.{sector_words, word_in, address_on, words_put, bytes_of_word, bytes_got}
 use Rattle.memory_transfer.specs.Tapes.{word_on_tape, block_put, bytes_on_tape, block_got}
@@ -75,24 +75,12 @@ bytes-with-sector bytes sector piece all new = bytes-overwritten bytes (sector *
 bytes-written : (a : Option Attachment) (disk : Buffer) (sector : ℕ) (piece : List ℕ) → AreBytes disk.bytes → AreBytes piece → AreBytes (sector_written a disk sector piece).bytes
 bytes-written None disk sector piece all new = all
 bytes-written (Some a) disk sector piece all new =
-    cond_both a.read_only disk (record { bytes = with_sector disk.bytes sector piece; written = true; marks = with_marks disk.bytes sector disk.marks }) (λ (d : Buffer). AreBytes d.bytes)
+    cond_both a.read_only disk (record { bytes = with_sector disk.bytes sector piece; written = true }) (λ (d : Buffer). AreBytes d.bytes)
     (λ _. all) (λ _. bytes-with-sector disk.bytes sector piece all new)
 
 pub bytes-disk : (a : Option Attachment) (m : MemoryState) (w : Want) (disk : Buffer) → IsMemory m → AreBytes disk.bytes → AreBytes (disk_after a m w disk).bytes
 bytes-disk a m (want.Sector true n from) disk is all = bytes-written a disk n (bytes_got sector_words from m) all (bytes-got sector_words from m is)
 bytes-disk a m w disk is all = all
-
--- no page is marked where nothing was written
-marks-written : (a : Option Attachment) (disk : Buffer) (sector : ℕ) (piece : List ℕ) → (disk.written ≡ false → disk.marks ≡ no_marks)
-    → (sector_written a disk sector piece).written ≡ false → (sector_written a disk sector piece).marks ≡ no_marks
-marks-written None disk sector piece none = none
-marks-written (Some a) disk sector piece none =
-    cond_both a.read_only disk (record { bytes = with_sector disk.bytes sector piece; written = true; marks = with_marks disk.bytes sector disk.marks })
-    (λ (d : Buffer). d.written ≡ false → d.marks ≡ no_marks) (λ _. none) (λ _ h. absurd (cc))
-
-pub marks-disk : (a : Option Attachment) (m : MemoryState) (w : Want) (disk : Buffer) → (disk.written ≡ false → disk.marks ≡ no_marks) → (disk_after a m w disk).written ≡ false → (disk_after a m w disk).marks ≡ no_marks
-marks-disk a m (want.Sector true n from) disk none = marks-written a disk n (bytes_got sector_words from m) none
-marks-disk a m w disk none = none
 
 -- ---- words of a block of a tape
 

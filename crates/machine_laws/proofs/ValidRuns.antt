@@ -97,7 +97,6 @@ new-valid us fit = record {
   places = refl;
   names = every-replicate HasByteName 12 None tt;
   disk = tt;
-  unmarked = λ none. refl;
 }
 
 pub empty-valid : ValidWatch empty_watch

@@ -37,7 +37,7 @@ use Rattle.nova_machine.proofs.Hosting.{wants-in}
 use Rattle.nova_machine.proofs.Listed.{listed-served, listed-wished, among-found, times_later}
 use Rattle.machine_laws.proofs.ValidInstruction.{follows-seen}
 use Rattle.machine_laws.proofs.ValidBytes.{AreFiles, IsByte}
-use Rattle.machine_laws.proofs.ValidMemory.{bytes-disk, marks-disk}
+use Rattle.machine_laws.proofs.ValidMemory.{bytes-disk}
 use Rattle.machine_laws.proofs.ValidWatch.{watch-after, key-typed, key-sent, key-first, taken-within}
 use Rattle.nova_machine.proofs.EachService.{each-service, sends-nowhere}
 use Rattle.machine_laws.proofs.ValidLines.{ValidLined, lined-valid}
@@ -75,7 +75,6 @@ valid-events m us es fit sound listed is = record {
   places = is.places;
   names = is.names;
   disk = is.disk;
-  unmarked = is.unmarked;
 }
 
 -- the event that is due first is taken
@@ -165,7 +164,6 @@ valid-done fault key a files w m all is =
       places = is.places;
       names = is.names;
       disk = bytes-disk a m.processor.memory w m.disk is.memory is.disk;
-      unmarked = marks-disk a m.processor.memory w m.disk is.unmarked;
     }
 
 valid-hosted : (fault : Option Failure) (u : UnitName) (s : Seen) → Valid s → Valid (hosted fault u s)

@@ -6,7 +6,7 @@ use Rattle.host_lines.specs.Traffic.{Peer, Happening, Traffic, Answer, Gave, Ahe
 use Rattle.telnet_lines.specs.Line.{LineOf, unconnected, full_output}
 use Rattle.telnet_lines.specs.Poll.{longest_received}
 use Rattle.unit_files.specs.Attachments.{Attachment, Held, attachment_at}
-use Rattle.unit_files.specs.Buffer.{Buffer, no_marks, no_buffer, disk_unit}
+use Rattle.unit_files.specs.Buffer.{Buffer, no_buffer, disk_unit}
 use Rattle.nova_memory.specs.Memory.{IsMemory, IsSize}
 use Rattle.nova_processor.specs.declared.cpu.Cpu.{Cpu}
 use Rattle.expect_actions.specs.declared.breaks.Break.{Break}
@@ -48,8 +48,6 @@ pub record ValidMachine (m : MachineState) : Type 0 where
   pub places : length m.slots ≡ 12
   pub names : AllByRecursion HasByteName m.slots
   pub disk : AreBytes m.disk.bytes
-  -- no page of the disk's copy is marked where nothing is to be written back
-  pub unmarked : m.disk.written ≡ false → m.disk.marks ≡ no_marks
 
 -- the actions of a break, or of a text that is waited for: they have come in a line
 pub record AreShortActions (actions : List ℕ) : Type 0 where

@@ -26,6 +26,7 @@ impl<'a> Stops for AtBreaks<'a> {
 }
 
 impl<U: Unit> Machine<U> {
+    ghost use Rattle.nova_machine.specs.Machine.{attached_files};
     ghost use Rattle.nova_processor.specs.Burst.{IsBurst};
     ghost use Rattle.expect_actions.specs.Breaks.{has_break};
     ghost use Rattle.nova_machine.specs.Bursts.{Bursts, IsCalm, passed_by};
@@ -38,6 +39,7 @@ impl<U: Unit> Machine<U> {
         ensures few { result.done ≤ most }
         ensures told { Bursts watch.now keys.now most result.done result.end self.old self.new }
         ensures slots { self.new.slots ≡ self.old.slots }
+        ensures attached { attached_files self.new ≡ attached_files self.old }
         ensures lines { self.new.lines ≡ self.old.lines }
         ensures later { self.old.time ≤ self.new.time }
         ensures time { self.new.time ≡ self.old.time + result.done }
@@ -70,6 +72,7 @@ impl<U: Unit> Machine<U> {
         ensures few { result.done ≤ most }
         ensures told { (keys : List (ℕ × ℕ)) → Bursts watch.now keys most result.done result.end self.old self.new }
         ensures slots { self.new.slots ≡ self.old.slots }
+        ensures attached { attached_files self.new ≡ attached_files self.old }
         ensures lines { self.new.lines ≡ self.old.lines }
         ensures later { self.old.time ≤ self.new.time }
         ensures time { self.new.time ≡ self.old.time + result.done }

@@ -30,6 +30,7 @@ pub(crate) struct Looks {
 }
 
 impl<U: Unit> Machine<U> {
+    ghost use Rattle.nova_machine.specs.Machine.{attached_files};
     ghost use Rattle.nova_machine.specs.Bursts.{Bursts};
     ghost use Rattle.nova_machine.specs.StopCauses.{BurstCause};
 
@@ -39,6 +40,7 @@ impl<U: Unit> Machine<U> {
         ensures few { result.done ≤ most }
         ensures told { Bursts watch.now keys.now most result.done result.end self.old self.new }
         ensures slots { self.new.slots ≡ self.old.slots }
+        ensures attached { attached_files self.new ≡ attached_files self.old }
         ensures lines { self.new.lines ≡ self.old.lines }
         ensures later { self.old.time ≤ self.new.time }
         ensures time { self.new.time ≡ self.old.time + result.done }
@@ -69,6 +71,7 @@ impl<U: Unit> Machine<U> {
         ensures few { result.done ≤ most }
         ensures told { Bursts watch.now keys.now most result.done result.end self.old self.new }
         ensures slots { self.new.slots ≡ self.old.slots }
+        ensures attached { attached_files self.new ≡ attached_files self.old }
         ensures lines { self.new.lines ≡ self.old.lines }
         ensures later { self.old.time ≤ self.new.time }
         ensures time { self.new.time ≡ self.old.time + result.done }

@@ -35,6 +35,7 @@ const SECOND_KEYBOARD: UnitName = UnitName {
 };
 
 impl<U: Unit> Machine<U> {
+    ghost use Rattle.nova_machine.specs.Machine.{attached_files};
     ghost use Rattle.nova_machine.specs.StopCauses.{BurstCause};
     ghost use Rattle.nova_machine.specs.Steps.{Services, GoAlong};
 
@@ -52,6 +53,7 @@ impl<U: Unit> Machine<U> {
             → GoesOn watch.now keys.now most result.done result.end (L.state lines.old) self.old (L.state lines.new)
             self.new }
         ensures slots { self.new.slots ≡ self.old.slots }
+        ensures attached { attached_files self.new ≡ attached_files self.old }
         ensures lines { LinesGoOn L.tells (L.state lines.old) self.old.lines (L.state lines.new) self.new.lines }
         ensures time { self.new.time ≡ self.old.time + result.done }
         ensures taken { self.new.taken ≡ self.old.taken }
@@ -95,6 +97,7 @@ impl<U: Unit> Machine<U> {
             → IsAhead watch.now keys.now (L.state lines.old) self.old (L.state lines.new) self.new }
         ensures again { IfSome result (λ period. LookAgain period self.new.units) }
         ensures slots { self.new.slots ≡ self.old.slots }
+        ensures attached { attached_files self.new ≡ attached_files self.old }
         ensures lines { LinesGoOn L.tells (L.state lines.old) self.old.lines (L.state lines.new) self.new.lines }
         ensures time { self.new.time ≡ self.old.time }
         ensures taken { self.new.taken ≡ self.old.taken }
@@ -165,6 +168,7 @@ impl<U: Unit> Machine<U> {
             → IsAhead watch keys (L.state lines.old) self.old (L.state lines.new) self.new }
         ensures again { IfSome result (λ later. LookAgain later self.new.units) }
         ensures slots { self.new.slots ≡ self.old.slots }
+        ensures attached { attached_files self.new ≡ attached_files self.old }
         ensures lines { LinesGoOn L.tells (L.state lines.old) self.old.lines (L.state lines.new) self.new.lines }
         ensures time { self.new.time ≡ self.old.time }
         ensures taken { self.new.taken ≡ self.old.taken }

@@ -120,6 +120,7 @@ impl<U: Unit> Model for Machine<U> {
       taken = m.taken;
       slots = m.attached.slots;
       disk = m.attached.disk;
+      marks = m.attached.marks;
       lines = m.lines.items;
     } };
 

@@ -31,6 +31,8 @@ impl RunLimit {
 }
 
 impl<U: Unit> Machine<U> {
+    ghost use Rattle.nova_machine.specs.Machine.{attached_files};
+    ghost use Rattle.unit_files.specs.InStep.{MarksCover};
     ghost use Rattle.nova_machine.specs.Seen.{seen, beside};
     ghost use Rattle.nova_machine.specs.Comes.{Does, AreTold, StopCounts, FileCause};
     ghost use Rattle.nova_machine.specs.LineChanges.{AreLinesTold, LinesGoOn};
@@ -60,6 +62,7 @@ impl<U: Unit> Machine<U> {
         ensures counts { StopCounts (Some result) (S.fault_count out.old) (S.fault_count out.new) }
         ensures unit { HasUnit result }
         ensures slots { self.new.slots ≡ self.old.slots }
+        ensures covers { MarksCover (attached_files self.old) (attached_files self.new) }
         ensures kinds { kinds_of self.new.units ≡ kinds_of self.old.units }
         ensures lines { LinesGoOn L.tells (L.state lines.old) self.old.lines (L.state lines.new) self.new.lines }
         ensures opened { (F.state files.new).opened ≡ (F.state files.old).opened }

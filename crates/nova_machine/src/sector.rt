@@ -2,6 +2,7 @@
 ghost use Rattle.std.specs.Prelude.{◌≡◌, ◌<◌, ◌^◌, true, false};
 ghost use Rattle.unit_trait.specs.declared.calls.Want.TheVariants as wants;
 ghost use Rattle.unit_files.specs.Attachments.{attachment_at};
+ghost use Rattle.unit_files.specs.InStep.{MarksCover};
 ghost use Rattle.unit_files.specs.Buffer.{disk_unit, disk_sectors, said_of_reading, said_of_writing};
 ghost use Rattle.nova_machine.specs.declared.service.Hosted.TheVariants.{Gets};
 ghost use Rattle.nova_machine.specs.Sectors.{got_of_sector, memory_after, disk_after};
@@ -14,6 +15,7 @@ use unit_trait::{Got, Unit};
 
 impl<U: Unit> Machine<U> {
     ghost use Rattle.nova_machine.specs.Seen.{attached_in};
+    ghost use Rattle.nova_machine.specs.Machine.{attached_files};
 
     /// Reads a sector into memory, from an address on.
     pub(crate) fn read_sector(&mut self, sector: u16, address: u16) -> Hosted
@@ -43,7 +45,9 @@ impl<U: Unit> Machine<U> {
         ensures machine { self.new ≡ record self.old {
           disk = disk_after (attachment_at (attached_in self.old) disk_unit) self.old.processor.memory
               (wants.Sector true sector address) self.old.disk;
+          marks = self.new.marks;
         } }
+        ensures covers { MarksCover (attached_files self.old) (attached_files self.new) }
         ensures said { result
             ≡ Gets (got_of_sector (said_of_writing (attachment_at (attached_in self.old) disk_unit))) }
     {

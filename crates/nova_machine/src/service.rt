@@ -28,6 +28,8 @@ use unit_list::{Places, due_at, got_at};
 use unit_trait::{After, Got, Queue, Unit, UnitName, UnitStop, Want};
 
 impl<U: Unit> Machine<U> {
+    ghost use Rattle.nova_machine.specs.Machine.{attached_files};
+    ghost use Rattle.unit_files.specs.InStep.{MarksCover};
     ghost use Rattle.nova_machine.specs.Core.{IsAmong};
     ghost use Rattle.nova_machine.specs.Seen.{seen, beside};
     ghost use Rattle.nova_machine.specs.Comes.{Does, AreTold, FileCause};
@@ -57,6 +59,7 @@ impl<U: Unit> Machine<U> {
         ensures counts { StopCounts result (S.fault_count out.old) (S.fault_count out.new) }
         ensures unit { IfSome result HasUnit }
         ensures slots { self.new.slots ≡ self.old.slots }
+        ensures covers { MarksCover (attached_files self.old) (attached_files self.new) }
         ensures kinds { kinds_of self.new.units ≡ kinds_of self.old.units }
         ensures lines { LinesGoOn L.tells (L.state lines.old) self.old.lines (L.state lines.new) self.new.lines }
         ensures opened { (F.state files.new).opened ≡ (F.state files.old).opened }
@@ -114,6 +117,7 @@ impl<U: Unit> Machine<U> {
         ensures counts { StopCounts result (S.fault_count out.old) (S.fault_count out.new) }
         ensures unit { IfSome result HasUnit }
         ensures slots { self.new.slots ≡ self.old.slots }
+        ensures covers { MarksCover (attached_files self.old) (attached_files self.new) }
         ensures kinds { kinds_of self.new.units ≡ kinds_of self.old.units }
         ensures lines { LinesGoOn L.tells (L.state lines.old) self.old.lines (L.state lines.new) self.new.lines }
         ensures opened { (F.state files.new).opened ≡ (F.state files.old).opened }
@@ -236,6 +240,8 @@ impl<U: Unit> Machine<U> {
     ghost use Rattle.nova_machine.specs.StopCauses.{IsMadeOf, IsPastRoom};
     ghost use Rattle.nova_machine.specs.Service.{done_for};
     ghost use Rattle.nova_machine.specs.Steps.{IsAnswer, worked};
+    ghost use Rattle.nova_machine.specs.Machine.{attached_files};
+    ghost use Rattle.unit_files.specs.InStep.{MarksCover};
 
     /// Does what a unit wants of the machine.
     fn host<S: Sink, F: Files>(
@@ -250,9 +256,10 @@ impl<U: Unit> Machine<U> {
         requires number { unit.unit < units_of unit.kind }
         requires open { AllOpen self.old.slots (F.state files.old).opened }
         requires kind { CanBeHosted want unit.kind }
-        ensures machine { AreTold F.tells self.old.slots → self.new ≡ done_for (failure_of_stop (stop_in result))
+        ensures machine { AreTold F.tells self.old.slots → self.new ≡ record (done_for (failure_of_stop (stop_in result))
             (typed_key (due_send self.old.time watch.old.sends) (due_key keys.now self.old.taken self.old.time))
-            (attachment_at (attached_in self.old) unit) (F.state files.old).files want self.old }
+            (attachment_at (attached_in self.old) unit) (F.state files.old).files want self.old) { marks = self.new.marks } }
+        ensures covers { MarksCover (attached_files self.old) (attached_files self.new) }
         ensures watch { watch.new ≡ watch_behind self.old.time want result watch.old }
         ensures slots { self.new.slots ≡ self.old.slots }
         ensures lines { self.new.lines ≡ self.old.lines }
@@ -284,9 +291,9 @@ impl<U: Unit> Machine<U> {
         ensures answer { IsAnswer want (attachment_at (attached_in self.old) unit)
             (first_key (due_send self.old.time watch.old.sends) (due_key keys.now self.old.taken self.old.time))
             watch.old.expects result }
-        ensures work { self.new ≡ worked self.new.processor.memory
+        ensures work { self.new ≡ record (worked self.new.processor.memory
             (typed_key (due_send self.old.time watch.old.sends) (due_key keys.now self.old.taken self.old.time))
-            (attachment_at (attached_in self.old) unit) want self.old }
+            (attachment_at (attached_in self.old) unit) want self.old) { marks = self.new.marks } }
     {
         match want {
             Want::Nothing | Want::LinePut { line: _, byte: _ } => Hosted::Gets(Got::Done),

@@ -21,6 +21,8 @@ use unit_trait::Unit;
 const JMP_THROUGH_1: Word = Word(0o2001);
 
 impl<U: Unit> Machine<U> {
+    ghost use Rattle.nova_machine.specs.Machine.{attached_files};
+    ghost use Rattle.unit_files.specs.InStep.{MarksCover};
     ghost use Rattle.nova_machine.specs.Seen.{seen, beside};
     ghost use Rattle.nova_machine.specs.Parts.{stop_of, silent};
     ghost use Rattle.nova_machine.specs.Ends.{end_stop};
@@ -70,6 +72,7 @@ impl<U: Unit> Machine<U> {
         ensures counts { StopCounts (stop_of result) (S.fault_count out.old) (S.fault_count out.new) }
         ensures unit { IfSome (stop_of result) HasUnit }
         ensures slots { self.new.slots ≡ self.old.slots }
+        ensures covers { MarksCover (attached_files self.old) (attached_files self.new) }
         ensures kinds { kinds_of self.new.units ≡ kinds_of self.old.units }
         ensures lines { LinesGoOn L.tells (L.state lines.old) self.old.lines (L.state lines.new) self.new.lines }
         ensures opened { (F.state files.new).opened ≡ (F.state files.old).opened }
@@ -107,6 +110,7 @@ impl<U: Unit> Machine<U> {
         ensures counts { StopCounts result (S.fault_count out.old) (S.fault_count out.new) }
         ensures unit { IfSome result HasUnit }
         ensures slots { self.new.slots ≡ self.old.slots }
+        ensures covers { MarksCover (attached_files self.old) (attached_files self.new) }
         ensures kinds { kinds_of self.new.units ≡ kinds_of self.old.units }
         ensures lines { LinesGoOn L.tells (L.state lines.old) self.old.lines (L.state lines.new) self.new.lines }
         ensures opened { (F.state files.new).opened ≡ (F.state files.old).opened }
@@ -161,6 +165,7 @@ impl<U: Unit> Machine<U> {
         ensures counts { StopCounts result (S.fault_count out.old) (S.fault_count out.new) }
         ensures unit { IfSome result HasUnit }
         ensures slots { self.new.slots ≡ self.old.slots }
+        ensures covers { MarksCover (attached_files self.old) (attached_files self.new) }
         ensures kinds { kinds_of self.new.units ≡ kinds_of self.old.units }
         ensures lines { LinesGoOn L.tells (L.state lines.old) self.old.lines (L.state lines.new) self.new.lines }
         ensures opened { (F.state files.new).opened ≡ (F.state files.old).opened }
@@ -207,6 +212,7 @@ impl<U: Unit> Machine<U> {
         ensures counts { StopCounts result (S.fault_count out.old) (S.fault_count out.new) }
         ensures unit { IfSome result HasUnit }
         ensures slots { self.new.slots ≡ self.old.slots }
+        ensures covers { MarksCover (attached_files self.old) (attached_files self.new) }
         ensures kinds { kinds_of self.new.units ≡ kinds_of self.old.units }
         ensures lines { LinesGoOn L.tells (L.state lines.old) self.old.lines (L.state lines.new) self.new.lines }
         ensures opened { (F.state files.new).opened ≡ (F.state files.old).opened }

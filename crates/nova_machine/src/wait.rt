@@ -17,6 +17,7 @@ use unit_list::flags_at;
 use unit_trait::Unit;
 
 impl<U: Unit> Machine<U> {
+    ghost use Rattle.nova_machine.specs.Machine.{attached_files};
     ghost use Rattle.nova_machine.specs.Bursts.{Bursts};
     ghost use Rattle.nova_machine.specs.Waits.{IsUntaken, IsWaiting};
     ghost use Rattle.nova_word.specs.Bits.{bits};
@@ -28,6 +29,7 @@ impl<U: Unit> Machine<U> {
         ensures few { result ≤ most }
         ensures told { Bursts watch.now keys.now most result Transfer self.old self.new }
         ensures slots { self.new.slots ≡ self.old.slots }
+        ensures attached { attached_files self.new ≡ attached_files self.old }
         ensures lines { self.new.lines ≡ self.old.lines }
         ensures later { self.old.time ≤ self.new.time }
         ensures time { self.new.time ≡ self.old.time + result }
@@ -58,6 +60,7 @@ impl<U: Unit> Machine<U> {
         ensures few { result ≤ most }
         ensures told { (keys : List (ℕ × ℕ)) → Bursts watch.now keys most result Transfer self.old self.new }
         ensures slots { self.new.slots ≡ self.old.slots }
+        ensures attached { attached_files self.new ≡ attached_files self.old }
         ensures lines { self.new.lines ≡ self.old.lines }
         ensures later { self.old.time ≤ self.new.time }
         ensures time { self.new.time ≡ self.old.time + result }
@@ -79,6 +82,7 @@ impl<U: Unit> Machine<U> {
         ensures few { result ≤ most }
         ensures told { Bursts watch.now keys.now most result Transfer self.old self.new }
         ensures slots { self.new.slots ≡ self.old.slots }
+        ensures attached { attached_files self.new ≡ attached_files self.old }
         ensures lines { self.new.lines ≡ self.old.lines }
         ensures later { self.old.time ≤ self.new.time }
         ensures time { self.new.time ≡ self.old.time + result }

@@ -4,7 +4,7 @@ use Rattle.file_traits.specs.Streams.{AddsPart}
 use Rattle.unit_trait.specs.declared.processor.CpuReg.{CpuReg}
 use Rattle.unit_trait.specs.declared.processor.CpuReg.TheVariants.{Ac0, Ac1, Ac2, Ac3, C, Pc, Ion, Hold, Mask, Sr, StopDev, Size}
 use Rattle.expect_actions.specs.Watch.{WatchState}
-use Rattle.nova_machine.specs.Machine.{MachineState}
+use Rattle.nova_machine.specs.Machine.{MachineState, attached_files}
 use Rattle.nova_machine.specs.Registers.{register_of, with_register}
 use Rattle.nova_machine.specs.Seen.{erased, seen, beside}
 use Rattle.operand_forms.specs.declared.listing.Name.{Name}
@@ -144,36 +144,36 @@ erased-deposited m l v = erased-filled v m (all_places (shape_of m) l.device l.i
 
 -- what DEPOSIT leaves of a machine that it does not change
 pub record Frame (old new : MachineState) : Type 0 where
-  pub slots : new.slots ≡ old.slots
+  pub attached : attached_files new ≡ attached_files old
   pub time : new.time ≡ old.time
   pub lines : new.lines ≡ old.lines
 
 register-frame : (m : MachineState) (r : CpuReg) (v : ℕ) → Frame m (with_register m r v)
-register-frame m Ac0 v = record { slots = refl; time = refl; lines = refl }
-register-frame m Ac1 v = record { slots = refl; time = refl; lines = refl }
-register-frame m Ac2 v = record { slots = refl; time = refl; lines = refl }
-register-frame m Ac3 v = record { slots = refl; time = refl; lines = refl }
-register-frame m C v = record { slots = refl; time = refl; lines = refl }
-register-frame m Pc v = record { slots = refl; time = refl; lines = refl }
-register-frame m Ion v = record { slots = refl; time = refl; lines = refl }
-register-frame m Hold v = record { slots = refl; time = refl; lines = refl }
-register-frame m Mask v = record { slots = refl; time = refl; lines = refl }
-register-frame m Sr v = record { slots = refl; time = refl; lines = refl }
-register-frame m StopDev v = record { slots = refl; time = refl; lines = refl }
-register-frame m Size v = record { slots = refl; time = refl; lines = refl }
+register-frame m Ac0 v = record { attached = refl; time = refl; lines = refl }
+register-frame m Ac1 v = record { attached = refl; time = refl; lines = refl }
+register-frame m Ac2 v = record { attached = refl; time = refl; lines = refl }
+register-frame m Ac3 v = record { attached = refl; time = refl; lines = refl }
+register-frame m C v = record { attached = refl; time = refl; lines = refl }
+register-frame m Pc v = record { attached = refl; time = refl; lines = refl }
+register-frame m Ion v = record { attached = refl; time = refl; lines = refl }
+register-frame m Hold v = record { attached = refl; time = refl; lines = refl }
+register-frame m Mask v = record { attached = refl; time = refl; lines = refl }
+register-frame m Sr v = record { attached = refl; time = refl; lines = refl }
+register-frame m StopDev v = record { attached = refl; time = refl; lines = refl }
+register-frame m Size v = record { attached = refl; time = refl; lines = refl }
 
 value-frame : (v : ℕ) (m : MachineState) (p : Place) → Frame m (with_value v m p)
-value-frame v m (Cell a) = record { slots = refl; time = refl; lines = refl }
+value-frame v m (Cell a) = record { attached = refl; time = refl; lines = refl }
 value-frame v m (Register r) = register-frame m r v
-value-frame v m (UnitRegister kind i) = record { slots = refl; time = refl; lines = refl }
+value-frame v m (UnitRegister kind i) = record { attached = refl; time = refl; lines = refl }
 
 filled-frame : (v : ℕ) (m : MachineState) (places : List Place) → Frame m (filled v m places)
 unfolding filled
-filled-frame v m [] = record { slots = refl; time = refl; lines = refl }
+filled-frame v m [] = record { attached = refl; time = refl; lines = refl }
 filled-frame v m (p ∷ more) =
     let first = value-frame v m p in
     let rest = filled-frame v (with_value v m p) more in
-    record { slots = rest.slots ∙ first.slots; time = rest.time ∙ first.time; lines = rest.lines ∙ first.lines }
+    record { attached = rest.attached ∙ first.attached; time = rest.time ∙ first.time; lines = rest.lines ∙ first.lines }
 
 pub deposited-frame : (m : MachineState) (l : Listing) (v : ℕ) → Frame m (deposited m l v)
 unfolding deposited
@@ -224,7 +224,7 @@ deposit-silent m new watch keys files l value r there deposits =
 -- what is attached, the time and the lines stand
 pub deposit-frame : {T : Type 0} (m new : MachineState) (l : Listing) (v : ℕ) (r : Result T ExamineFault) → Deposits m l v r new → Frame m new
 deposit-frame m new l v (Ok x) done = subst (λ (x : MachineState). Frame m x) (sym done.1) (deposited-frame m l v)
-deposit-frame m new l v (Err fault) done = subst (λ (x : MachineState). Frame m x) (sym done.1) (record { slots = refl; time = refl; lines = refl })
+deposit-frame m new l v (Err fault) done = subst (λ (x : MachineState). Frame m x) (sym done.1) (record { attached = refl; time = refl; lines = refl })
 
 pub deposits-of : {T : Type 0} (m new : MachineState) (l : Listing) (v : ℕ) (r : Result T ExamineFault) → OnOk r ((fault_of_deposit m l v ≡ None) × (new ≡ deposited m l v))
     → IfErr r (λ fault. (fault_of_deposit m l v ≡ Some fault) × (new ≡ m)) → Deposits m l v r new

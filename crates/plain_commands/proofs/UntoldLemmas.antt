@@ -2,7 +2,7 @@
 use Rattle.std.proofs.Common.{◌≡◌, ℕ, Bool, true, false, List, [], ◌+◌, length, nat_le, nat_lt, not, ◌==◌, ◌&&◌, Option, Some, None, Result, Ok, Err, refl, ap, sym, subst, ◌∙◌, append-nil, if◌then◌else◌}
 use Rattle.nova_memory.specs.Memory.{fits_size}
 use Rattle.nova_machine.specs.declared.machine.Stop.TheVariants.{FileFault}
-use Rattle.nova_machine.specs.Machine.{MachineState, reset_devices, reset_machine}
+use Rattle.nova_machine.specs.Machine.{MachineState, attached_files, reset_devices, reset_machine}
 use Rattle.scp_parser.specs.declared.command.Shown.{Shown}
 use Rattle.scp_parser.specs.declared.command.Shown.TheVariants as shown
 use Rattle.operand_forms.specs.declared.listing.Listing.{Listing}
@@ -190,9 +190,9 @@ unfolding reset_reply
 reset-no-file live = tt
 
 -- a reset leaves the files of units
-pub reset-slots : (m : MachineState) → (reset_machine m).slots ≡ m.slots
+pub reset-attached : (m : MachineState) → attached_files (reset_machine m) ≡ attached_files m
 unfolding reset_machine reset_devices
-reset-slots m = refl
+reset-attached m = refl
 
 -- none of the commands that work on no file and no line
 pub record IsNoUntold (v : Verb) : Type 0 where

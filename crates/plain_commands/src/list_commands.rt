@@ -2,6 +2,7 @@
 ghost use Rattle.std.specs.Prelude.{◌≡◌, Bool, []};
 ghost use Rattle.host_lines.specs.Told.{Heard};
 ghost use Rattle.unit_list.specs.Bus.{kinds_of};
+ghost use Rattle.nova_machine.specs.Machine.{attached_files};
 ghost use Rattle.nova_machine.specs.Comes.{Output, output};
 ghost use Rattle.command_session.specs.Live.{standing, live_in, Beyond};
 ghost use Rattle.plain_commands.specs.ListEffects.{lacks_device, examine_reply, handed, deposit_reply};
@@ -53,7 +54,7 @@ pub fn deposit_list<U: Unit>(
     ensures exit { IsExitAnswer result }
     ensures rest { session.new ≡ record session.old { machine = session.new.machine } }
     ensures kinds { kinds_of session.new.machine.units ≡ kinds_of session.old.machine.units }
-    ensures slots { session.new.machine.slots ≡ session.old.machine.slots }
+    ensures attached { attached_files session.new.machine ≡ attached_files session.old.machine }
     ensures time { session.new.machine.time ≡ session.old.machine.time }
     ensures terminals { session.new.machine.lines ≡ session.old.machine.lines }
 {
@@ -77,7 +78,7 @@ fn fill_list<U: Unit>(
         → (deposit_reply (live_in session.old files) listing.now value).made ≡ [] }
     ensures rest { session.new ≡ record session.old { machine = session.new.machine } }
     ensures kinds { kinds_of session.new.machine.units ≡ kinds_of session.old.machine.units }
-    ensures slots { session.new.machine.slots ≡ session.old.machine.slots }
+    ensures attached { attached_files session.new.machine ≡ attached_files session.old.machine }
     ensures time { session.new.machine.time ≡ session.old.machine.time }
     ensures terminals { session.new.machine.lines ≡ session.old.machine.lines }
 {

@@ -2,6 +2,7 @@
 ghost use Rattle.std.specs.Prelude.{◌≡◌, ◌*◌, Bool};
 ghost use Rattle.nova_memory.specs.Memory.{IsSize};
 ghost use Rattle.unit_list.specs.Bus.{kinds_of};
+ghost use Rattle.nova_machine.specs.Machine.{attached_files};
 ghost use Rattle.nova_machine.specs.Comes.{Output};
 ghost use Rattle.command_session.specs.Live.{standing, live_in, Beyond};
 ghost use Rattle.plain_commands.specs.SetEffects.{sized, set_size_reply};
@@ -24,7 +25,7 @@ pub fn set_size<U: Unit>(session: &mut Session<U>, k: u64) -> Result<Next, Comma
     ensures exit { IsExitAnswer result }
     ensures rest { session.new ≡ record session.old { machine = session.new.machine } }
     ensures kinds { kinds_of session.new.machine.units ≡ kinds_of session.old.machine.units }
-    ensures slots { session.new.machine.slots ≡ session.old.machine.slots }
+    ensures attached { attached_files session.new.machine ≡ attached_files session.old.machine }
     ensures time { session.new.machine.time ≡ session.old.machine.time }
     ensures terminals { session.new.machine.lines ≡ session.old.machine.lines }
 {

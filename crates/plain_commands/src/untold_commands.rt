@@ -4,6 +4,7 @@ ghost use Rattle.file_traits.specs.State.{FileState};
 ghost use Rattle.unit_list.specs.Bus.{kinds_of};
 ghost use Rattle.file_commands.specs.Notes.{notes_said};
 ghost use Rattle.host_lines.specs.Told.{Heard};
+ghost use Rattle.nova_machine.specs.Machine.{attached_files};
 ghost use Rattle.nova_machine.specs.Comes.{output};
 ghost use Rattle.command_session.specs.declared.fault.CommandFault.TheVariants.{OutOfMemory};
 ghost use Rattle.command_session.specs.Live.{Beyond, live_in, standing};
@@ -50,6 +51,7 @@ pub fn obey_untold<U: Unit, S: Sink>(
         result session.old.notes session.new.notes state state }
     ensures rest { session.new
         ≡ record session.old { machine = session.new.machine; watch = session.new.watch } }
+    ensures attached { attached_files session.new.machine ≡ attached_files session.old.machine }
     ensures slots { session.new.machine.slots ≡ session.old.machine.slots }
     ensures terminals { session.new.machine.lines ≡ session.old.machine.lines }
     ensures kinds { kinds_of session.new.machine.units ≡ kinds_of session.old.machine.units }
@@ -76,7 +78,7 @@ fn do_untold<U: Unit, S: Sink>(
         → WantedMemory command.now session.old session.new (S.written out.old) (S.written out.new) }
     ensures rest { session.new
         ≡ record session.old { machine = session.new.machine; watch = session.new.watch } }
-    ensures slots { session.new.machine.slots ≡ session.old.machine.slots }
+    ensures attached { attached_files session.new.machine ≡ attached_files session.old.machine }
     ensures terminals { session.new.machine.lines ≡ session.old.machine.lines }
     ensures kinds { kinds_of session.new.machine.units ≡ kinds_of session.old.machine.units }
     ensures counts { ConsoleCounts result (S.fault_count out.old) (S.fault_count out.new) }

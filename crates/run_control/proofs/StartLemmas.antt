@@ -4,7 +4,7 @@ use Rattle.file_commands.specs.Notes.{CommandNote, Note, notes_said}
 use Rattle.expect_actions.specs.Watch.{WatchState}
 use Rattle.telnet_lines.specs.Line.{LineOf}
 use Rattle.telnet_lines.specs.Joined.{seen_line}
-use Rattle.nova_machine.specs.Machine.{MachineState, reset_machine, reset_devices}
+use Rattle.nova_machine.specs.Machine.{MachineState, attached_files, reset_machine, reset_devices}
 use Rattle.nova_machine.specs.Seen.{erased, seen, beside}
 use Rattle.nova_machine.specs.Comes.{Output}
 use Rattle.command_session.specs.declared.fault.CommandFault.TheVariants.{OutOfRange}
@@ -43,6 +43,19 @@ starting-lines (Some a) m = refl
 -- and so do the lines
 pub started-lines : (resets : Bool) (address : Option ℕ) (m : MachineState) → (starting_at address (reset_where resets m)).lines ≡ m.lines
 started-lines resets address m = starting-lines address (reset_where resets m) ∙ reset-lines resets m
+
+-- and what the disk holds of its file
+reset-files : (resets : Bool) (m : MachineState) → attached_files (reset_where resets m) ≡ attached_files m
+unfolding reset_machine reset_devices
+reset-files true m = refl
+reset-files false m = refl
+
+starting-files : (address : Option ℕ) (m : MachineState) → attached_files (starting_at address m) ≡ attached_files m
+starting-files None m = refl
+starting-files (Some a) m = refl
+
+pub started-files : (resets : Bool) (address : Option ℕ) (m : MachineState) → attached_files (starting_at address (reset_where resets m)) ≡ attached_files m
+started-files resets address m = starting-files address (reset_where resets m) ∙ reset-files resets m
 
 -- ---- an address, and a count, that is out of range
 

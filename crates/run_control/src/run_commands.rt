@@ -1,7 +1,9 @@
 // RUN, GO, CONT, STEP and RESET.
 ghost use Rattle.std.specs.Prelude.{◌≡◌, ◌≢◌, ◌≤◌, ◌++◌, true, false, None, IsTrue, min, nat_le};
 ghost use Rattle.unit_list.specs.Bus.{kinds_of};
+ghost use Rattle.unit_files.specs.InStep.{MarksCover};
 ghost use Rattle.unit_files.specs.Open.{AllOpen};
+ghost use Rattle.nova_machine.specs.Machine.{attached_files};
 ghost use Rattle.nova_machine.specs.Run.{run};
 ghost use Rattle.nova_machine.specs.declared.machine.Stop.TheVariants.{ConsoleFault};
 ghost use Rattle.command_session.specs.Live.{live_in, beyond};
@@ -10,7 +12,7 @@ ghost use Rattle.command_session.specs.RunEffects.{stepped, count_fits, step_of,
 ghost use Rattle.command_session.specs.Answers.{IsByTables, OfRun, out_of_range};
 ghost use Rattle.command_session.specs.Doing.{IsRefused};
 ghost use Rattle.command_session.specs.RunStops.{RunStops};
-ghost use Rattle.command_session.specs.Doing.{stop_notes, RunDone};
+ghost use Rattle.command_session.specs.Doing.{stop_notes, Grows, RunDone};
 
 use crate::stop_line::put_stop;
 use command_session::{CommandFault, Next, Session, is_count, stamp_of, told_or_console};
@@ -47,6 +49,8 @@ pub fn run_from<U: Unit, F: Files, L: Lines, S: Sink>(
         (S.written out.new) }
     ensures tables { IsByTables (out_of_range (address_fits address)) result }
     ensures answers { OfRun result }
+    ensures grows { Grows S.tells (S.written out.old) (S.written out.new) }
+    ensures covers { MarksCover (attached_files session.old.machine) (attached_files session.new.machine) }
     ensures kinds { kinds_of session.new.machine.units ≡ kinds_of session.old.machine.units }
 {
     if !address_fits(address) {
@@ -115,6 +119,8 @@ pub fn run<U: Unit, F: Files, L: Lines, S: Sink>(
         (S.written out.new) }
     ensures tables { IsByTables None result }
     ensures answers { OfRun result }
+    ensures grows { Grows S.tells (S.written out.old) (S.written out.new) }
+    ensures covers { MarksCover (attached_files session.old.machine) (attached_files session.new.machine) }
     ensures kinds { kinds_of session.new.machine.units ≡ kinds_of session.old.machine.units }
 {
     let limit = RunLimit {
@@ -147,6 +153,8 @@ pub fn step<U: Unit, F: Files, L: Lines, S: Sink>(
         session.new S.tells (S.written out.old) (S.written out.new) }
     ensures tables { IsByTables (out_of_range (count_fits count)) result }
     ensures answers { OfRun result }
+    ensures grows { Grows S.tells (S.written out.old) (S.written out.new) }
+    ensures covers { MarksCover (attached_files session.old.machine) (attached_files session.new.machine) }
     ensures kinds { kinds_of session.new.machine.units ≡ kinds_of session.old.machine.units }
 {
     if is_count(count) {
@@ -176,6 +184,8 @@ fn step_by<U: Unit, F: Files, L: Lines, S: Sink>(
         session.new S.tells (S.written out.old) (S.written out.new) }
     ensures tables { IsByTables None result }
     ensures answers { OfRun result }
+    ensures grows { Grows S.tells (S.written out.old) (S.written out.new) }
+    ensures covers { MarksCover (attached_files session.old.machine) (attached_files session.new.machine) }
     ensures kinds { kinds_of session.new.machine.units ≡ kinds_of session.old.machine.units }
 {
     let limit = RunLimit {
@@ -207,6 +217,8 @@ fn run_up_to<U: Unit, F: Files, L: Lines, S: Sink>(
         (S.written out.new) }
     ensures tables { IsByTables None result }
     ensures answers { OfRun result }
+    ensures grows { Grows S.tells (S.written out.old) (S.written out.new) }
+    ensures covers { MarksCover (attached_files session.old.machine) (attached_files session.new.machine) }
     ensures kinds { kinds_of session.new.machine.units ≡ kinds_of session.old.machine.units }
 {
     let stop = session.machine.run(limit, &mut session.watch, &session.keys, files, lines, out);

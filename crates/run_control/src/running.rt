@@ -4,7 +4,8 @@ ghost use Rattle.unit_list.specs.Bus.{kinds_of};
 ghost use Rattle.unit_files.specs.Open.{AllOpen};
 ghost use Rattle.command_session.specs.Live.{live_in, beyond};
 ghost use Rattle.command_session.specs.Answers.{AnswersByTables, CanAnswer};
-ghost use Rattle.command_session.specs.Doing.{IsRefused, RunDone};
+ghost use Rattle.command_session.specs.DiskFile.{StaysWhereAlone};
+ghost use Rattle.command_session.specs.Doing.{IsRefused, Grows, RunDone};
 ghost use Rattle.command_session.specs.RunStops.{RunStops, run_count, is_step};
 ghost use Rattle.run_control.specs.RunEffect.{run_effect, IsRun};
 
@@ -37,6 +38,8 @@ pub fn obey_run<U: Unit, F: Files, L: Lines, S: Sink>(
         session.old session.new S.tells (S.written out.old) (S.written out.new) }
     ensures tables { AnswersByTables session.old.machine command.now result }
     ensures answers { CanAnswer command.now result }
+    ensures grows { Grows S.tells (S.written out.old) (S.written out.new) }
+    ensures step { StaysWhereAlone session.old session.new (F.state files.old).files (F.state files.new).files }
     ensures kinds { kinds_of session.new.machine.units ≡ kinds_of session.old.machine.units }
 {
     match &command.verb {

@@ -16,7 +16,7 @@ use Rattle.unit_files.specs.Acts.{Failure, failure_at, AttachSaid, Attached, Onl
 use Rattle.unit_files.specs.Acts.{attach_said}
 use Rattle.unit_files.specs.Acts.{attach_files, files_unless, files_unless_opening, files_where, opened_files}
 use Rattle.unit_files.specs.Acts.{is_read_only}
-use Rattle.unit_files.specs.Buffer.{Buffer, no_marks}
+use Rattle.unit_files.specs.Buffer.{Buffer}
 use Rattle.unit_files.specs.Acts.{buffer_by, said_unless, opened_said, read_whole, refused_first}
 use Rattle.unit_files.specs.Digests.{digest_measured}
 use Rattle.saved_session.specs.Parts.{FilePart}
@@ -244,4 +244,4 @@ pub bytes-taken : (new old : Buffer) (f : FilePart) (size : ℕ) (unit : UnitNam
 bytes-taken new old f size unit name now files u n s is disk =
     ap (λ (b : Buffer). b.bytes)
     (is ∙ (λ i. buffer_by (Attached size) (u i) (bytes_of (s i) (n i)) old)
-    ∙ ap (λ (b : Bool). cond b (record { bytes = bytes_of files f.name; written = false; marks = no_marks }) old) disk)
+    ∙ ap (λ (b : Bool). cond b (record { bytes = bytes_of files f.name; written = false }) old) disk)

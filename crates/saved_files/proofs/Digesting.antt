@@ -5,7 +5,8 @@ use Rattle.file_traits.specs.Lists.{NamedBytes}
 use Rattle.unit_trait.specs.declared.kind.UnitName.{UnitName}
 use Rattle.unit_files.specs.Attachments.{Attachment, is_disk}
 use Rattle.unit_files.specs.Buffer.{Buffer}
-use Rattle.unit_files.specs.Acts.{Failure, is_due_back, flush_files}
+use Rattle.unit_files.specs.Acts.{Failure, is_due_back}
+use Rattle.unit_files.specs.InStep.{pages_flushed}
 use Rattle.unit_files.proofs.FlushLaws.{flushes-leave}
 
 -- nothing is to be written back where no sector was written, or for a unit that is not the disk
@@ -17,7 +18,8 @@ none-due unit disk clean = by-disk (is_disk unit.kind) refl
     by-disk true is = ap (λ (x : Bool). x && disk.written) is ∙ clean is
     by-disk false is = ap (λ (x : Bool). x && disk.written) is
 
-pub none-flushed : (fails : Option Failure) (unit : UnitName) (a : Option Attachment) (disk : Buffer)
+pub none-flushed : (fails : Option Failure) (unit : UnitName) (a : Option Attachment) (disk : Buffer) (marks : List Bool)
     (files : List NamedBytes) → (is_disk unit.kind ≡ true → disk.written ≡ false)
-    → flush_files fails unit a disk files ≡ files
-none-flushed fails unit a disk files clean = flushes-leave.nothing fails unit a disk files (none-due unit disk clean)
+    → pages_flushed fails unit a disk marks files ≡ files
+none-flushed fails unit a disk marks files clean =
+    flushes-leave.nothing fails unit a disk marks files (none-due unit disk clean)

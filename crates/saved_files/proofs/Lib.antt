@@ -7,3 +7,4 @@ pub mod RestoreCounts
 pub mod SavingLaws
 pub mod ClosingOnce
 pub mod RestoreOpenings
+pub mod InStep

@@ -256,7 +256,7 @@ copy-stays f attached mid old disk files can put there unwritten bytes other is 
         (subst (λ (l : List (Option Attachment)). IsTrue (is_some (attachment_at l (unit_of f)))) put there) in
         let here : attachment_at mid disk_unit ≡ Some (attachment_of f) =
         ap (λ (n : ℕ). get_or mid n None) (sym place) ∙ some in
-        (λ i. record { bytes = bytes at i; written = (unwritten at).0 i; marks = (unwritten at).1 i })
+        (λ i. record { bytes = bytes at i; written = unwritten at i })
         ∙ ap (λ (a : Option Attachment). copy_of a files) (sym here)
     by-disk false at =
         let apart = other-place (kind_at f.position) f.unit at can.unit in

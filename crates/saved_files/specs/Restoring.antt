@@ -10,7 +10,7 @@ use Rattle.unit_trait.specs.Kinds.{same_unit}
 use Rattle.unit_files.specs.declared.modes.AttachMode.{AttachMode}
 use Rattle.unit_files.specs.declared.modes.AttachMode.TheVariants.{MustExist, ReadOnly}
 use Rattle.unit_files.specs.Attachments.{Attachment, with_attachment}
-use Rattle.unit_files.specs.Buffer.{Buffer, no_marks, no_buffer}
+use Rattle.unit_files.specs.Buffer.{Buffer, no_buffer}
 use Rattle.unit_files.specs.Acts.{Failure, AttachSaid, Attached, UnitHasFile, OnlyWrites, NotThere, TooLong, CallFailed}
 use Rattle.unit_files.specs.Acts.{attach_said}
 use Rattle.unit_files.specs.Answers.{failure_in}
@@ -83,7 +83,7 @@ with_all attached (f ∷ fs) = with_all (with_file attached f) fs
 -- the disk's copy of the file that it was just given
 abbrev pub copy_of : Option Attachment → List NamedBytes → Buffer
 copy_of None files = no_buffer
-copy_of (Some a) files = record { bytes = bytes_of files a.name; written = false; marks = no_marks }
+copy_of (Some a) files = record { bytes = bytes_of files a.name; written = false }
 
 -- the failing call, where it is one of that unit
 abbrev pub at_unit : UnitName → Option (UnitName × Failure) → Option Failure

@@ -10,7 +10,7 @@ use Rattle.unit_files.specs.declared.faults.UnitFault.{UnitFault}
 use Rattle.unit_files.specs.Attachments.{Attachment, Held, takes_attachment, only_writes, is_disk, attachment_at}
 use Rattle.unit_files.specs.Attachments.{held_at}
 use Rattle.unit_files.specs.Attachments.{IsFileName, file_place}
-use Rattle.unit_files.specs.Buffer.{Buffer, no_marks, no_buffer}
+use Rattle.unit_files.specs.Buffer.{Buffer, no_buffer}
 use Rattle.unit_files.specs.Acts.{Failure, Attached, attach_said}
 use Rattle.unit_files.specs.Answers.{failure_in}
 use Rattle.unit_files.specs.Causes.{IsQuiet, IsFaultOf}
@@ -48,9 +48,9 @@ AreApart (f ∷ fs) = AllByRecursion (AreOfTwo f) fs × AreApart fs
 abbrev pub IsClean : Buffer → FilePart → Type 0
 IsClean disk f = is_disk (kind_at f.position) ≡ true → disk ≡ no_buffer
 
--- nothing of the copy is to be written back, and no page is marked
+-- nothing of the copy is to be written back
 abbrev pub IsAsRead : Buffer → Type 0
-IsAsRead disk = (disk.written ≡ false) × (disk.marks ≡ no_marks)
+IsAsRead disk = disk.written ≡ false
 
 -- ---- the digest of a unit's file, of which nothing is to be written back
 

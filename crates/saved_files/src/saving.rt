@@ -4,6 +4,7 @@ ghost use Rattle.std.specs.List.{AllByRecursion};
 ghost use Rattle.unit_files.specs.Acts.{flush_said, flush_files, buffer_flushed};
 ghost use Rattle.unit_files.specs.Attachments.{attachments_of, attachment_at, file_units};
 ghost use Rattle.unit_files.specs.Buffer.{disk_unit};
+ghost use Rattle.unit_files.specs.InStep.{InStep};
 ghost use Rattle.unit_files.specs.Digests.{IsReadingCall};
 ghost use Rattle.unit_files.specs.Open.{AllOpen};
 ghost use Rattle.saved_session.specs.Parts.{file_in};
@@ -159,8 +160,10 @@ fn write_back<F: Files>(attached: &mut Attached, files: &mut F) -> Result<(), Un
     ensures slots { attached.new.slots ≡ attached.old.slots }
     ensures disk { attached.new.disk ≡ buffer_flushed (flush_said (failure_of_write result) disk_unit
         (attachment_at (attachments_of attached.old.slots) disk_unit) attached.old.disk) disk_unit attached.old.disk }
-    ensures files { (F.state files.new).files ≡ flush_files (failure_of_write result) disk_unit
-        (attachment_at (attachments_of attached.old.slots) disk_unit) attached.old.disk (F.state files.old).files }
+    ensures files { InStep attached.old (F.state files.old).files → (F.state files.new).files
+        ≡ flush_files (failure_of_write result) disk_unit (attachment_at (attachments_of attached.old.slots) disk_unit)
+        attached.old.disk (F.state files.old).files }
+    ensures step { InStep attached.old (F.state files.old).files → InStep attached.new (F.state files.new).files }
     ensures opened { (F.state files.new).opened ≡ (F.state files.old).opened }
     ensures cause { UnitCause result attached.old.slots (F.state files.old) (F.state files.new) }
 {
@@ -241,13 +244,15 @@ pub fn digest_all<F: Files>(
         ≡ saved_files (F.state files.new).files (attachments_of attached.old.slots) file_places) }
     ensures few { IfOk result (λ v. length (files_in v.items) ≤ file_units) }
     ensures named { IfOk result (λ v. AreNamed (files_in v.items)) }
-    ensures first { IsTrue F.tells → UnlessNoMemory result (first_unsaved (save_claim result)
+    ensures first { IsTrue F.tells → InStep attached.old (F.state files.old).files → UnlessNoMemory result (first_unsaved (save_claim result)
         (attachments_of attached.old.slots) attached.old.disk (F.state files.old).files ≡ save_claim result) }
     ensures slots { attached.new.slots ≡ attached.old.slots }
     ensures disk { UnlessNoMemory result (attached.new.disk
         ≡ copy_flushed (save_claim result) (attachments_of attached.old.slots) attached.old.disk) }
-    ensures files { UnlessNoMemory result ((F.state files.new).files ≡ files_flushed (save_claim result)
-        (attachments_of attached.old.slots) attached.old.disk (F.state files.old).files) }
+    ensures files { InStep attached.old (F.state files.old).files → UnlessNoMemory result ((F.state files.new).files
+        ≡ files_flushed (save_claim result) (attachments_of attached.old.slots) attached.old.disk
+        (F.state files.old).files) }
+    ensures step { InStep attached.old (F.state files.old).files → InStep attached.new (F.state files.new).files }
     ensures no_memory { IfNoMemory result ((attached.new ≡ attached.old) × (F.state files.new ≡ F.state files.old)) }
     ensures opened { (F.state files.new).opened ≡ (F.state files.old).opened }
     ensures cause { SaveCause result attached.old.slots (F.state files.old) (F.state files.new) }

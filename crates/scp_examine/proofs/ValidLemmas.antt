@@ -38,7 +38,6 @@ cpu-valid m cpu is new = record {
   places = is.places;
   names = is.names;
   disk = is.disk;
-  unmarked = is.unmarked;
 }
 
 accumulator-valid : (m : MachineState) (i v : ℕ) → ValidMachine m → v < 2 ^ 16
@@ -68,7 +67,6 @@ rest-valid m mask sr on hold stop_dev is low fits = record {
   places = is.places;
   names = is.names;
   disk = is.disk;
-  unmarked = is.unmarked;
 }
 
 address_value : (v : ℕ) → out_of_range_unless (nat_le v (2 ^ 15 - 1)) ≡ None → v < 2 ^ 15
@@ -108,7 +106,6 @@ unit-valid m kind i v is takes = record {
   places = is.places;
   names = is.names;
   disk = is.disk;
-  unmarked = is.unmarked;
 }
 
 value-valid : (m : MachineState) (place : Place) (v : ℕ) → ValidMachine m → Takes (shape_of m) v place → ValidMachine (with_value v m place)
@@ -122,7 +119,6 @@ value-valid m (Cell a) v is takes = record {
   places = is.places;
   names = is.names;
   disk = is.disk;
-  unmarked = is.unmarked;
 }
 value-valid m (Register r) v is takes = register-valid m r v is takes.fits
 value-valid m (UnitRegister kind i) v is takes = unit-valid m kind i v is (fits_from_none (takes_value (register_at kind i) v) takes.fits)

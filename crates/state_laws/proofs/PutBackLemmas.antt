@@ -16,7 +16,7 @@ use Rattle.unit_trait.specs.declared.kind.UnitName.{UnitName}
 use Rattle.unit_trait.specs.Calls.{UnitState}
 use Rattle.event_queue.specs.EventList.{Event}
 use Rattle.unit_files.specs.Attachments.{Attachment, Held, attachments_of, no_attachments, attachment_at, with_attachment, file_place, file_units}
-use Rattle.unit_files.specs.Buffer.{Buffer, no_marks, disk_unit}
+use Rattle.unit_files.specs.Buffer.{Buffer, disk_unit}
 use Rattle.nova_memory.specs.Memory.{MemoryState, IsMemory, IsSize}
 use Rattle.expect_actions.specs.declared.breaks.Break.{Break}
 use Rattle.expect_actions.specs.declared.expects.Expect.{Expect}
@@ -204,10 +204,9 @@ numbers-back (Some h ∷ slots) = ap
     (λ (l : List (Option Held)). Some (record { file = 0; attachment = h.attachment }) ∷ l) (numbers-back slots)
 
 copy-back : (a : Option Attachment) (disk : Buffer) (files : List NamedBytes) → CopyIsFile a disk files
-    → disk.written ≡ false → disk.marks ≡ no_marks → copy_of a files ≡ disk
-copy-back None disk files copy written unmarked = sym copy
-copy-back (Some a) disk files copy written unmarked =
-    λ i. record { bytes = sym (copy written) i; written = sym written i; marks = sym unmarked i }
+    → disk.written ≡ false → copy_of a files ≡ disk
+copy-back None disk files copy written = sym copy
+copy-back (Some a) disk files copy written = λ i. record { bytes = sym (copy written) i; written = sym written i }
 
 -- ---- the machine
 
@@ -222,7 +221,8 @@ machine-back s can =
     let attached = files-back s.files (attached_in m) twelve in
     let slots = ap (map held_from) attached ∙ numbers-back m.slots ∙ ap (λ (x : MachineState). x.slots) can.seen in
     let disk = ap (λ (l : List (Option Attachment)). copy_of (attachment_at l disk_unit) s.files) attached
-    ∙ copy-back (attachment_at (attached_in m) disk_unit) m.disk s.files can.copy can.written can.unmarked in
+    ∙ copy-back (attachment_at (attached_in m) disk_unit) m.disk s.files can.copy can.written in
+    let marks = ap (λ (x : MachineState). x.marks) can.seen in
     let lines = ap (λ (x : MachineState). x.lines) can.seen in
     λ i. record {
       processor = record {
@@ -242,6 +242,7 @@ machine-back s can =
       taken = m.taken;
       slots = slots i;
       disk = disk i;
+      marks = marks i;
       lines = lines i;
     }
 

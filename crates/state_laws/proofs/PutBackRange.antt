@@ -13,7 +13,7 @@ use Rattle.unit_list.specs.Bus.{kinds_of}
 use Rattle.event_queue.specs.EventList.{Event}
 use Rattle.event_queue.specs.DueTimes.{scheduled}
 use Rattle.unit_files.specs.Attachments.{Attachment, attachments_of, attachment_at, file_place, file_units}
-use Rattle.unit_files.specs.Buffer.{disk_unit, no_marks}
+use Rattle.unit_files.specs.Buffer.{disk_unit}
 use Rattle.nova_memory.specs.Memory.{IsMemory, IsSize}
 use Rattle.nova_machine.specs.Core.{IsAmong, AreListed}
 use Rattle.nova_machine.specs.Valid.{AreBytes, IsByteName, HasByteName, ValidMachine, CopyIsFile}
@@ -88,10 +88,6 @@ disk-bytes : (a : Option Attachment) (files : List NamedBytes) → AllByRecursio
 disk-bytes None files are = tt
 disk-bytes (Some a) files are = bytes-found files a.name are
 
-copy-unmarked : (a : Option Attachment) (files : List NamedBytes) → (copy_of a files).marks ≡ no_marks
-copy-unmarked None files = refl
-copy-unmarked (Some a) files = refl
-
 pub as-many-places : (attached : List (Option Attachment)) (files : List FilePart)
     → length (with_all attached files) ≡ length attached
 as-many-places attached [] = refl
@@ -162,5 +158,4 @@ machine-in-range m attached files is places names bytes = record {
   places = length-map attached held_from ∙ places;
   names = names-held attached names;
   disk = disk-bytes (attachment_at attached disk_unit) files bytes;
-  unmarked = λ none. copy-unmarked (attachment_at attached disk_unit) files;
 }

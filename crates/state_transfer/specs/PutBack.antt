@@ -8,7 +8,7 @@ use Rattle.unit_trait.specs.declared.kind.UnitName.{UnitName}
 use Rattle.unit_trait.specs.Calls.{UnitState}
 use Rattle.event_queue.specs.EventList.{Event}
 use Rattle.unit_files.specs.Attachments.{Attachment, Held, no_attachments, attachment_at, file_units}
-use Rattle.unit_files.specs.Buffer.{disk_unit, no_marks}
+use Rattle.unit_files.specs.Buffer.{disk_unit}
 use Rattle.nova_memory.specs.Memory.{MemoryState, IsMemory, IsSize}
 use Rattle.nova_processor.specs.declared.cpu.Cpu.{Cpu}
 use Rattle.nova_interrupts.specs.declared.interrupts.Ints.{Ints}
@@ -53,7 +53,7 @@ event_from e = record { unit = unit_named e.position e.unit; remaining = e.remai
 abbrev pub held_from : Option Attachment → Option Held
 held_from a = option_map (λ (b : Attachment). record { file = 0; attachment = b }) a
 
--- a machine to whose units that is attached, without its lines
+-- a machine to whose units that is attached, without its lines, and without the marks of the disk's pages
 unfoldable pub machine_from : MachinePart → List (Option Attachment) → List NamedBytes → MachineState
 machine_from m attached files = record {
   processor = record { cpu = cpu_from m.cpu; memory = memory_from m.cpu.size_k m.words };
@@ -66,6 +66,7 @@ machine_from m attached files = record {
   taken = m.cpu.keys_taken;
   slots = map held_from attached;
   disk = copy_of (attachment_at attached disk_unit) files;
+  marks = [];
   lines = [];
 }
 
@@ -99,9 +100,9 @@ pub record IsIdleLine (line : LineOf Peer) : Type 0 where
   pub port : line.port ≢ Some 0
 
 -- The memory is one, of a size that a machine may have, and each unit that takes files has its place. The machine is
--- without numbers of files and without its lines, as it is seen. The disk's copy is that of its file, nothing is to be
--- written back, and no page is marked. The actions of the stop that came last are forgotten. There is one line, with nobody
--- on it.
+-- without numbers of files, without marks of the disk's pages and without its lines, as it is seen. The disk's copy is that
+-- of its file, and nothing is to be written back. The actions of the stop that came last are forgotten. There is one line,
+-- with nobody on it.
 pub record CanBeSaved (s : Seen) : Type 0 where
   pub memory : IsMemory s.machine.processor.memory
   pub size : IsSize s.machine.processor.memory.size
@@ -109,7 +110,6 @@ pub record CanBeSaved (s : Seen) : Type 0 where
   pub seen : erased s.machine ≡ s.machine
   pub copy : DiskIsItsFile s
   pub written : s.machine.disk.written ≡ false
-  pub unmarked : s.machine.disk.marks ≡ no_marks
   pub watch : s.watch ≡ forgotten s.watch
   pub line : length s.lines ≡ 1
   pub idle : AllByRecursion IsIdleLine s.lines

@@ -4,6 +4,7 @@ ghost use Rattle.telnet_lines.specs.Line.{unconnected};
 ghost use Rattle.unit_files.specs.Attachments.{attachments_of, attachment_at, no_attachments};
 ghost use Rattle.unit_files.specs.Buffer.{nothing_attached, disk_unit};
 ghost use Rattle.unit_files.specs.Causes.{AreFrom, OnlyNewCounts};
+ghost use Rattle.unit_files.specs.InStep.{InStep};
 ghost use Rattle.unit_files.specs.Open.{AllOpen, Around};
 ghost use Rattle.nova_machine.specs.Machine.{attached_files, with_attached_files};
 ghost use Rattle.nova_machine.specs.Seen.{beside, erased};
@@ -103,6 +104,7 @@ pub fn put_outside<U: Unit, F: Files, L: Lines>(
     ensures attached { OnOk result (attachments_of machine.new.slots ≡ with_all no_attachments (state_in saved.now).files) }
     ensures copy { IsTrue F.tells → OnOk result (machine.new.disk
         ≡ copy_of (attachment_at (with_all no_attachments (state_in saved.now).files) disk_unit) (F.state files.old).files) }
+    ensures step { IsTrue F.tells → OnOk result (InStep (attached_files machine.new) (F.state files.new).files) }
     ensures refused { OnErr result (machine.new ≡ machine.old) }
     ensures closed { OnErr result ((F.state files.new).opened ≡ (F.state files.old).opened) }
     ensures files { IsTrue F.tells → (F.state files.new).files ≡ (F.state files.old).files }
@@ -162,9 +164,11 @@ pub fn set_state<U: Unit, F: Files, L: Lines>(
     ensures rest { OnOk result (machine.new ≡ record (with_machine_of machine.old (state_in saved.now).machine) {
       slots = machine.new.slots;
       disk = machine.new.disk;
+      marks = machine.new.marks;
       lines = machine.new.lines;
     }) }
     ensures attached { OnOk result (attachments_of machine.new.slots ≡ with_all no_attachments (state_in saved.now).files) }
+    ensures step { IsTrue F.tells → OnOk result (InStep (attached_files machine.new) (F.state files.new).files) }
     ensures standard { AreStandard machine.new.units }
     ensures ports { OnOk result (machine.new.lines ≡ with_port saved.now.port machine.old.lines) }
     ensures watch { OnOk result (watch.new ≡ watch_from (state_in saved.now).watch) }

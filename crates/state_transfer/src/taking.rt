@@ -4,6 +4,8 @@ ghost use Rattle.host_lines.specs.Traffic.{Answer};
 ghost use Rattle.host_lines.specs.State.{LineState};
 ghost use Rattle.telnet_lines.specs.Joined.{seen_line};
 ghost use Rattle.unit_files.specs.Open.{AllOpen};
+ghost use Rattle.unit_files.specs.InStep.{InStep};
+ghost use Rattle.nova_machine.specs.Machine.{attached_files};
 ghost use Rattle.nova_machine.specs.Seen.{beside, seen, attached_in};
 ghost use Rattle.saved_session.specs.Parts.{state_in};
 ghost use Rattle.saved_files.specs.Saving.{first_unsaved, files_flushed, copy_flushed, save_claim, UnlessNoMemory, IfNoMemory, SaveCause};
@@ -42,13 +44,18 @@ pub fn take_state<U: Unit, F: Files>(
     ensures watch_part { IfOk result (λ v. (state_in v).watch ≡ saved_watch watch.now) }
     ensures port_part { IfOk result (λ v. (lines : LineState)
         → (state_in v).port ≡ saved_port (map (seen_line lines) machine.old.lines)) }
-    ensures first { IsTrue F.tells → UnlessNoMemory result (first_unsaved (save_claim result)
-        (attached_in machine.old) machine.old.disk (F.state files.old).files ≡ save_claim result) }
+    ensures first { IsTrue F.tells → InStep (attached_files machine.old) (F.state files.old).files
+        → UnlessNoMemory result (first_unsaved (save_claim result) (attached_in machine.old) machine.old.disk
+        (F.state files.old).files ≡ save_claim result) }
     ensures machine { UnlessNoMemory result (machine.new ≡ record machine.old {
       disk = copy_flushed (save_claim result) (attached_in machine.old) machine.old.disk;
+      marks = machine.new.marks;
     }) }
-    ensures files { UnlessNoMemory result ((F.state files.new).files ≡ files_flushed (save_claim result)
-        (attached_in machine.old) machine.old.disk (F.state files.old).files) }
+    ensures files { InStep (attached_files machine.old) (F.state files.old).files → UnlessNoMemory result
+        ((F.state files.new).files ≡ files_flushed (save_claim result) (attached_in machine.old) machine.old.disk
+        (F.state files.old).files) }
+    ensures step { InStep (attached_files machine.old) (F.state files.old).files
+        → InStep (attached_files machine.new) (F.state files.new).files }
     ensures no_memory { IfNoMemory result ((machine.new ≡ machine.old) × (F.state files.new ≡ F.state files.old)) }
     ensures slots { machine.new.slots ≡ machine.old.slots }
     ensures opened { (F.state files.new).opened ≡ (F.state files.old).opened }

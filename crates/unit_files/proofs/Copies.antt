@@ -2,7 +2,7 @@
 use Rattle.std.proofs.Common.{◌≡◌, ℕ, ◌*◌, ◌<◌, ◌≤◌, Bool, true, false, IsTrue, List, [], ◌∷◌, get_or, length, set, refl, sym, ◌∙◌, arith}
 use Rattle.std.proofs.Common.{Option, Some, None, Err, ap, zero, suc, replicate}
 use Rattle.std.proofs.lemmas.Bool.Decides.{nat_tests}
-use Rattle.std.proofs.lemmas.List.{get_or-set_other}
+use Rattle.std.proofs.lemmas.List.{get_or-set_other, length-replicate}
 use Rattle.unit_trait.specs.declared.kind.Kind.{Kind}
 use Rattle.unit_trait.specs.declared.kind.UnitName.{UnitName}
 use Rattle.unit_trait.proofs.EveryKind.{every-kind}
@@ -11,21 +11,22 @@ use Rattle.unit_files.specs.declared.faults.DetachFault.{DetachFault}
 use Rattle.unit_files.specs.declared.faults.DetachFault.TheVariants as faults
 use Rattle.unit_files.specs.Attachments.{Attachment, Held, held_at, file_place, file_units, no_files, takes_attachment, is_disk, longest_file, is_any_attached, attachments_of}
 use Rattle.unit_files.specs.Attachments.{read_only_of, read_only_at, attachment_at}
-use Rattle.unit_files.specs.Buffer.{Buffer, AttachedFiles, nothing_attached, no_marks, sector_bytes, disk_sectors, disk_bytes, with_sector}
+use Rattle.unit_files.specs.Pages.{disk_pages, no_marks}
+use Rattle.unit_files.specs.Buffer.{Buffer, AttachedFiles, nothing_attached, sector_bytes, disk_sectors, disk_bytes, with_sector}
 use Rattle.unit_files.specs.Acts.{Failure, HasNone, flush_said, flush_failure, flushed_as, detached_by}
 use Rattle.unit_files.specs.Answers.{said_of_flush, said_of_detach}
 use Rattle.unit_files.specs.View.{CanWrite, IsCopy, IsNewCopy, buffer_of, marks_of}
-use Rattle.unit_files.proofs.Marks.{marks-none}
+use Rattle.unit_files.proofs.Marks.{marks-all, marks-none}
 use Rattle.unit_files.proofs.Overwriting.{over-long}
 
 -- the first place is the disk's, and no other unit's
-first-of : (k : Kind) (n : ℕ) → is_disk k ≡ true → IsTrue (takes_attachment (record { kind = k; unit = n }))
+pub first-of : (k : Kind) (n : ℕ) → is_disk k ≡ true → IsTrue (takes_attachment (record { kind = k; unit = n }))
     → file_place (record { kind = k; unit = n }) ≡ 0
 first-of k n =
     every-kind (λ (kind : Kind). is_disk kind ≡ true → IsTrue (takes_attachment (record { kind = kind; unit = n })) → file_place (record { kind = kind; unit = n }) ≡ 0)
     ((λ is takes. grind (arith, nat_tests)), (λ is takes. absurd (cc)), (λ is takes. absurd (cc)), (λ is takes. absurd (cc)), (λ is takes. absurd (cc)), (λ is takes. absurd (cc)), (λ is takes. absurd (cc)), (λ is takes. absurd (cc)), (λ is takes. absurd (cc)), (λ is takes. absurd (cc)), (λ is takes. absurd (cc))) k
 
-not-first : (k : Kind) (n : ℕ) → is_disk k ≡ false → file_place (record { kind = k; unit = n }) ≡ 0 → ⊥
+pub not-first : (k : Kind) (n : ℕ) → is_disk k ≡ false → file_place (record { kind = k; unit = n }) ≡ 0 → ⊥
 not-first k n =
     every-kind (λ (kind : Kind). is_disk kind ≡ false → file_place (record { kind = kind; unit = n }) ≡ 0 → ⊥)
     ((λ other is. absurd (cc)), (λ other is. grind (arith, nat_tests)), (λ other is. grind (arith, nat_tests)), (λ other is. grind (arith, nat_tests)), (λ other is. grind (arith, nat_tests)), (λ other is. grind (arith, nat_tests)), (λ other is. grind (arith, nat_tests)), (λ other is. grind (arith, nat_tests)), (λ other is. grind (arith, nat_tests)), (λ other is. grind (arith, nat_tests)), (λ other is. grind (arith, nat_tests))) k
@@ -90,6 +91,14 @@ can-none slots after unit d is takes set_is empty unmarked unwritten =
       none = λ _. (empty, unmarked, unwritten);
       unmarked = λ _. no-pages d unmarked;
     }
+
+-- each page has a mark, or none
+pub pages-long : (slots : List (Option Held)) (d : DiskCopy) → CanWrite slots d → length (marks_of d.marks.items) ≡ disk_pages
+pages-long slots d can = by-held (get_or slots 0 None) refl
+  where
+    by-held : (x : Option Held) → get_or slots 0 None ≡ x → length (marks_of d.marks.items) ≡ disk_pages
+    by-held None is = ap (λ (l : List Bool). length l) (no-pages d (can.none is).1) ∙ length-replicate disk_pages false
+    by-held (Some h) is = ap (λ (l : List Bool). length l) (marks-all d.marks.items (can.copy h is).pages) ∙ (can.copy h is).pages
 
 -- there is a copy of the disk's file
 pub copy-there : (slots : List (Option Held)) (unit : UnitName) (h : Held) (d : DiskCopy) → CanWrite slots d
@@ -158,7 +167,7 @@ free-are (None ∷ slots) none = ap (λ (l : List (Option Held)). None ∷ l) (f
 free-are (Some h ∷ slots) none = absurd (cc)
 
 abbrev pub files_of : List (Option Held) → DiskCopy → AttachedFiles
-files_of slots d = record { slots = slots; disk = buffer_of d }
+files_of slots d = record { slots = slots; disk = buffer_of d; marks = marks_of d.marks.items }
 
 -- where no unit has a file, there is no copy of a disk
 pub nothing-there : (slots : List (Option Held)) (d : DiskCopy) → is_any_attached (attachments_of slots) ≡ false
@@ -168,4 +177,4 @@ nothing-there slots d none all can =
     let free : slots ≡ no_files = free-are slots none ∙ ap (λ (n : ℕ). replicate n None) all in
     let copy = can.none (ap (λ (l : List (Option Held)). get_or l 0 None) free) in
     let unmarked = no-pages d copy.1 in
-    λ i. record { slots = free i; disk = record { bytes = copy.0 i; written = copy.2 i; marks = unmarked i } }
+    λ i. record { slots = free i; disk = record { bytes = copy.0 i; written = copy.2 i }; marks = unmarked i }

@@ -1,13 +1,13 @@
 -- The digest of a unit's file, where no call fails.
 use Rattle.std.proofs.Common.{◌≡◌, ◌&&◌, Bool, true, false, List, length, Option, Some, None, IsSome, nat_lt, refl, ap, sym, ◌∙◌, if◌then◌else◌}
-use Rattle.file_traits.specs.Lists.{NamedBytes, find_file, bytes_of}
+use Rattle.file_traits.specs.Lists.{NamedBytes, find_file, bytes_of, changed}
+use Rattle.file_traits.proofs.Changes.{changed_bytes}
 use Rattle.unit_trait.specs.declared.kind.UnitName.{UnitName}
 use Rattle.unit_files.specs.Attachments.{Attachment, is_disk}
-use Rattle.unit_files.specs.Buffer.{Buffer, no_marks}
-use Rattle.unit_files.specs.Acts.{Failure, is_due_back, FlushSaid, Flushed, flushed_as, flush_said, flush_files, buffer_flushed}
+use Rattle.unit_files.specs.Buffer.{Buffer}
+use Rattle.unit_files.specs.Acts.{Failure, is_due_back, FlushSaid, Flushed, flushed_as, flush_said, written_back, flush_files, buffer_flushed}
 use Rattle.unit_files.specs.Digests.{digest_read, digest_measured, digest_said, behind_flush, buffer_digested}
-use Rattle.unit_files.specs.Laws.{IsCopyOutside, DigestsAreOfTheFile}
-use Rattle.unit_files.proofs.FlushLaws.{flushes-leave}
+use Rattle.unit_files.specs.Laws.{DigestsAreOfTheFile}
 
 -- no failure is met
 none-met : (test : Bool) (f : Option Failure) → f ≡ None → (if test then f else None) ≡ None
@@ -15,7 +15,7 @@ none-met true f is = is
 none-met false f is = refl
 
 -- nothing is to be written back behind a writing back
-marked-off : (test : Bool) (disk : Buffer) → (test && (if test then record disk { written = false; marks = no_marks } else disk).written) ≡ false
+marked-off : (test : Bool) (disk : Buffer) → (test && (if test then record disk { written = false } else disk).written) ≡ false
 marked-off true disk = refl
 marked-off false disk = refl
 
@@ -30,17 +30,27 @@ module _ (unit : UnitName) (a : Attachment) (disk : Buffer) (files : List NamedB
       ap (λ (s : FlushSaid). behind_flush s (digest_measured None bytes)) is-flushed
       ∙ ap (λ (f : Option Failure). digest_read f bytes) (none-met (nat_lt 0 (length bytes)) None refl)
 
+  copied : is_due_back unit disk ≡ true → flush_files None unit (Some a) disk files ≡ changed files a.name (written_back None disk)
+  unfolding flush_files
+  copied due = ap (λ (b : Bool). if b then changed files a.name (written_back None disk) else files) due
+
+  unchanged : is_due_back unit disk ≡ false → flush_files None unit (Some a) disk files ≡ files
+  unfolding flush_files
+  unchanged not_due = ap (λ (b : Bool). if b then changed files a.name (written_back None disk) else files) not_due
+
   copy : is_due_back unit disk ≡ true → IsSome (find_file files a.name)
-      → IsCopyOutside disk (bytes_of files a.name)
       → digest_said None unit (Some a) disk files ≡ digest_read None disk.bytes
-  copy due there outside = behind ∙ ap (digest_read None) (flushes-leave.whole unit a disk files due there outside)
+  copy due there =
+      behind
+      ∙ ap (λ (l : List NamedBytes). digest_read None (bytes_of l a.name)) (copied due)
+      ∙ ap (digest_read None) (changed_bytes files a.name (written_back None disk) there)
 
   file : is_due_back unit disk ≡ false
       → digest_said None unit (Some a) disk files ≡ digest_read None (bytes_of files a.name)
   file not_due =
       behind
       ∙ ap (λ (l : List NamedBytes). digest_read None (bytes_of l a.name))
-      (flushes-leave.nothing None unit (Some a) disk files not_due)
+      (unchanged not_due)
 
   marked : is_due_back unit (buffer_digested None unit (Some a) disk) ≡ false
   marked =

@@ -11,11 +11,12 @@ use Rattle.unit_files.specs.declared.faults.UnitFault.{UnitFault}
 use Rattle.unit_files.specs.declared.faults.DetachFault.{DetachFault}
 use Rattle.unit_files.specs.declared.faults.DetachFault.TheVariants as detach
 use Rattle.unit_files.specs.Attachments.{Attachment, Held, held_at}
+use Rattle.unit_files.specs.InStep.{written_pages, pages_flushed, marks_flushed}
 use Rattle.unit_files.specs.Buffer.{Buffer}
-use Rattle.unit_files.specs.Acts.{Failure, failure_at, is_due_back, piece_of, written_pages, flushed_as, flush_failure, flush_said, flush_files, buffer_flushed, FlushSaid, HasNone, NotFlushed, Flushed}
+use Rattle.unit_files.specs.Acts.{Failure, failure_at, is_due_back, piece_of, written_over, flushed_as, flush_failure, flush_said, flush_files, buffer_flushed, FlushSaid, HasNone, NotFlushed, Flushed}
 use Rattle.unit_files.specs.Answers.{failure_in, said_of_flush, failure_of_flush}
 use Rattle.unit_files.specs.Causes.{IsQuiet, IsFaultOf, FlushCause}
-use Rattle.unit_files.specs.Digests.{DigestSaid, digest_measured, digest_said, digest_flushed, behind_flush, buffer_digested, said_of_digest, failure_of_digest, MayDigest, DigestCause}
+use Rattle.unit_files.specs.Digests.{DigestSaid, digest_measured, digest_said, digest_flushed, behind_flush, buffer_digested, marks_digested, said_of_digest, failure_of_digest, MayDigest, DigestCause}
 use Rattle.unit_files.specs.Shapes.{IsPart}
 
 -- ---- behind a writing back that did not fail
@@ -33,22 +34,32 @@ pub same-files : (fault : Option Failure) (unit : UnitName) (a : Option Attachme
 unfolding flush_files
 same-files fault unit None disk files is = refl
 same-files fault unit (Some a) disk files is =
+    ap (λ (f : Option Failure). if is_due_back unit disk then changed files a.name (λ (old : List ℕ). written_over f
+    disk.bytes old) else files) is
+
+pub same-pages : (fault : Option Failure) (unit : UnitName) (a : Option Attachment) (disk : Buffer) (marks : List Bool)
+    (files : List NamedBytes) → failure_at Write fault ≡ None
+    → pages_flushed fault unit a disk marks files ≡ pages_flushed None unit a disk marks files
+unfolding pages_flushed
+same-pages fault unit None disk marks files is = refl
+same-pages fault unit (Some a) disk marks files is =
     ap (λ (f : Option Failure). if is_due_back unit disk then changed files a.name (λ (old : List ℕ). written_pages
-    disk.marks 0 (piece_of f disk.bytes) old) else files) is
+    marks 0 (piece_of f disk.bytes) old) else files) is
 
 module _ (fault : Option Failure) (unit : UnitName) (a : Option Attachment) (disk : Buffer)
     (other : failure_at Write fault ≡ None) (flushed : Flushed ≡ flush_said None unit a disk) where
   is-flushed : Flushed ≡ flush_said fault unit a disk
   is-flushed = flushed ∙ sym (same-said fault unit a disk other)
 
-  pub said-behind : (said : DigestSaid) (files files' : List NamedBytes) → files' ≡ flush_files None unit a disk files
-      → said ≡ digest_flushed fault a files' → said ≡ digest_said fault unit a disk files
-  said-behind said files files' written is =
-      is
-      ∙ (λ i. behind_flush (is-flushed i) (digest_flushed fault a ((written ∙ sym (same-files fault unit a disk files other)) i)))
+  pub read-behind : (said : DigestSaid) (files : List NamedBytes) → said ≡ digest_flushed fault a files
+      → said ≡ behind_flush (flush_said fault unit a disk) (digest_flushed fault a files)
+  read-behind said files is = is ∙ (λ i. behind_flush (is-flushed i) (digest_flushed fault a files))
 
   pub disk-behind : buffer_flushed Flushed unit disk ≡ buffer_digested fault unit a disk
   disk-behind = ap (λ (s : FlushSaid). buffer_flushed s unit disk) is-flushed
+
+  pub marks-behind : (marks : List Bool) → marks_flushed Flushed unit marks ≡ marks_digested fault unit a disk marks
+  marks-behind marks = ap (λ (s : FlushSaid). marks_flushed s unit marks) is-flushed
 
 pub may-behind : (result : Result FileDigest DetachFault) (unit : UnitName) (a b : Option Attachment) (disk : Buffer)
     → b ≡ a → MayDigest result unit b disk → MayDigest result unit a disk
@@ -91,20 +102,38 @@ cause-behind (Err (detach.Failed f)) unit slots slots' old mid new same first la
 
 -- ---- a writing back that was refused
 
-pub said-refused : (fault : DetachFault) (unit : UnitName) (a : Option Attachment) (disk : Buffer)
-    (files : List NamedBytes) → said_of_flush (Err fault) ≡ flush_said (failure_of_flush (Err fault)) unit a disk
-    → said_of_digest (Err fault) ≡ digest_said (failure_of_digest (Err fault)) unit a disk files
-said-refused detach.NotAttached unit a disk files is =
-    ap (λ (s : FlushSaid). behind_flush s (digest_flushed None a (flush_files None unit a disk files))) is
-said-refused (detach.Failed f) unit a disk files is =
-    let fault = Some (failure_in f) in
-    ap (λ (s : FlushSaid). behind_flush s (digest_flushed fault a (flush_files fault unit a disk files))) is
+pub read-refused : (fault : DetachFault) (unit : UnitName) (a : Option Attachment) (disk : Buffer) (files : List NamedBytes)
+    → said_of_flush (Err fault) ≡ flush_said (failure_of_flush (Err fault)) unit a disk
+    → said_of_digest (Err fault) ≡ behind_flush (flush_said (failure_of_digest (Err fault)) unit a disk)
+    (digest_flushed (failure_of_digest (Err fault)) a files)
+read-refused detach.NotAttached unit a disk files is =
+    ap (λ (s : FlushSaid). behind_flush s (digest_flushed None a files)) is
+read-refused (detach.Failed f) unit a disk files is =
+    ap (λ (s : FlushSaid). behind_flush s (digest_flushed (Some (failure_in f)) a files)) is
+
+-- the failing call of a refused writing back is that of the digesting
+pub failure-refused : (fault : DetachFault) → failure_of_digest (Err fault) ≡ failure_of_flush (Err fault)
+failure-refused detach.NotAttached = refl
+failure-refused (detach.Failed f) = refl
+
+-- what is read behind the writing back is what is said of the files in front of it
+pub said-read : (fault : Option Failure) (unit : UnitName) (a : Option Attachment) (disk : Buffer) (said : DigestSaid)
+    (files files' : List NamedBytes) → said ≡ behind_flush (flush_said fault unit a disk) (digest_flushed fault a files')
+    → files' ≡ flush_files fault unit a disk files → said ≡ digest_said fault unit a disk files
+said-read fault unit a disk said files files' is written =
+    is ∙ ap (λ (l : List NamedBytes). behind_flush (flush_said fault unit a disk) (digest_flushed fault a l)) written
 
 pub disk-refused : (fault : DetachFault) (unit : UnitName) (a : Option Attachment) (disk : Buffer)
     → said_of_flush (Err fault) ≡ flush_said (failure_of_flush (Err fault)) unit a disk
     → buffer_flushed (said_of_flush (Err fault)) unit disk ≡ buffer_digested (failure_of_digest (Err fault)) unit a disk
 disk-refused detach.NotAttached unit a disk is = ap (λ (s : FlushSaid). buffer_flushed s unit disk) is
 disk-refused (detach.Failed f) unit a disk is = ap (λ (s : FlushSaid). buffer_flushed s unit disk) is
+
+pub marks-refused : (fault : DetachFault) (unit : UnitName) (a : Option Attachment) (disk : Buffer) (marks : List Bool)
+    → said_of_flush (Err fault) ≡ flush_said (failure_of_flush (Err fault)) unit a disk
+    → marks_flushed (said_of_flush (Err fault)) unit marks ≡ marks_digested (failure_of_digest (Err fault)) unit a disk marks
+marks-refused detach.NotAttached unit a disk marks is = ap (λ (s : FlushSaid). marks_flushed s unit marks) is
+marks-refused (detach.Failed f) unit a disk marks is = ap (λ (s : FlushSaid). marks_flushed s unit marks) is
 
 none-flushed : (f : Option Failure) → HasNone ≡ flushed_as f → ⊥
 none-flushed None is = absurd (cc)

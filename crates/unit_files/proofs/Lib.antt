@@ -5,6 +5,7 @@ pub mod Attaching
 pub mod Copies
 pub mod Sectors
 pub mod FlushLaws
+pub mod InStep
 pub mod SectorLaws
 pub mod Digests
 pub mod DigestLaws

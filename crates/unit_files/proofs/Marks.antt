@@ -3,7 +3,8 @@ use Rattle.std.proofs.Common.{◌≡◌, ◌<◌, ◌≤◌, ◌+◌, ◌-◌, �
 use Rattle.std.proofs.lemmas.Bool.{cases_lt}
 use Rattle.std.proofs.lemmas.List.{get_or-drop, get_or-take, get_or_append_left, get_or-append_right, get_or-replicate, length-append, length-drop, length-replicate, length-take-le}
 use Rattle.std.proofs.lemmas.Nat.{div-add-mod', mod_below, div-mul-add}
-use Rattle.unit_files.specs.Buffer.{page_bytes, disk_pages, no_marks, sector_bytes, disk_sectors, page_of, marked}
+use Rattle.unit_files.specs.Pages.{page_bytes, disk_pages, no_marks, page_of, marked}
+use Rattle.unit_files.specs.Buffer.{sector_bytes, disk_sectors}
 use Rattle.unit_files.specs.View.{marks_of}
 
 pub page-some : 0 < page_bytes

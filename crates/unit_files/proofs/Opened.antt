@@ -11,7 +11,8 @@ use Rattle.file_traits.specs.State.{Opened, opened_at, name_at, mode_at}
 use Rattle.unit_trait.specs.declared.kind.UnitName.{UnitName}
 use Rattle.unit_files.specs.Attachments.{Attachment, Held, file_place, read_only_of, read_only_at}
 use Rattle.unit_files.specs.Acts.{Failure, failure_at, read_act, read_said, write_files, byte_written, most_bytes}
-use Rattle.unit_files.specs.Acts.{AtEnd, is_due_back, written_back, flush_files}
+use Rattle.unit_files.specs.Acts.{AtEnd, is_due_back}
+use Rattle.unit_files.specs.InStep.{pages_back, pages_flushed}
 use Rattle.unit_files.specs.Buffer.{Buffer}
 use Rattle.unit_files.specs.Open.{is_reading, AllOpen, IsHeldOpen}
 use Rattle.unit_files.specs.View.{HoldsFile}
@@ -65,13 +66,13 @@ read-at-file fault a b place files name is same within =
     ∙ ap (λ (n : List ℕ). read_said (failure_at call.Read fault) (bytes_of files n) place) (sym same)
 
 pub written-back-file : (fault : Option Failure) (unit : UnitName) (a : Option Attachment) (b : Attachment)
-    (disk : Buffer) (files : List NamedBytes) (name : List ℕ) → a ≡ Some b → name ≡ b.name → is_due_back unit disk ≡ true
-    → flush_files fault unit a disk files ≡ changed files name (written_back fault disk)
-unfolding flush_files
-written-back-file fault unit a b disk files name is same due =
-    ap (λ (x : Option Attachment). flush_files fault unit x disk files) is
-    ∙ ap (λ (t : Bool). if t then changed files b.name (written_back fault disk) else files) due
-    ∙ ap (λ (n : List ℕ). changed files n (written_back fault disk)) (sym same)
+    (disk : Buffer) (marks : List Bool) (files : List NamedBytes) (name : List ℕ) → a ≡ Some b → name ≡ b.name
+    → is_due_back unit disk ≡ true → pages_flushed fault unit a disk marks files ≡ changed files name (pages_back fault disk marks)
+unfolding pages_flushed
+written-back-file fault unit a b disk marks files name is same due =
+    ap (λ (x : Option Attachment). pages_flushed fault unit x disk marks files) is
+    ∙ ap (λ (t : Bool). if t then changed files b.name (pages_back fault disk marks) else files) due
+    ∙ ap (λ (n : List ℕ). changed files n (pages_back fault disk marks)) (sym same)
 
 pub written-at-file : (fault : Option Failure) (a : Option Attachment) (b : Attachment) (place byte : ℕ)
     (files : List NamedBytes) (name : List ℕ) → a ≡ Some b → name ≡ b.name → place < most_bytes

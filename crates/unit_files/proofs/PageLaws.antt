@@ -1,16 +1,19 @@
 -- A sector marks the pages in which it changes the copy.
-use Rattle.std.proofs.Common.{◌≡◌, ◌≢◌, ◌<◌, ◌≤◌, ◌+◌, ◌-◌, ◌*◌, ◌%◌, ℕ, Bool, true, false, List, length, min, get_or, None, Some, inl, inr, ap, sym, ◌∙◌, arith}
-use Rattle.std.proofs.lemmas.Bool.{cond_both, cases_Bool, cases_lt}
+use Rattle.std.proofs.Common.{◌≡◌, ◌≢◌, ◌<◌, ◌≤◌, ◌+◌, ◌-◌, ◌*◌, ◌%◌, ◌⊎◌, ℕ, Bool, true, false, List, length, min, get_or, slice_get, None, Some, inl, inr, ap, sym, ◌∙◌, arith, if◌then◌else◌}
+use Rattle.std.proofs.lemmas.Bool.{cases_Bool, cases_lt}
 use Rattle.std.proofs.lemmas.List.{ext_get_or}
+use Rattle.std.proofs.lemmas.Option.{slice_get_past}
 use Rattle.file_traits.specs.Lists.{overwritten}
 use Rattle.unit_files.specs.Attachments.{Attachment}
-use Rattle.unit_files.specs.Buffer.{Buffer, page_bytes, disk_pages, page_of, sector_bytes, disk_sectors, with_sector, with_marks, sector_written}
-use Rattle.unit_files.specs.Acts.{written_pages, written_back}
+use Rattle.unit_files.specs.Pages.{page_bytes, disk_pages, page_of}
+use Rattle.unit_files.specs.InStep.{with_marks, marks_written, written_pages, pages_back, MarksCover}
+use Rattle.unit_files.specs.Buffer.{Buffer, AttachedFiles, sector_bytes, disk_sectors, with_sector, sector_written}
 use Rattle.unit_files.specs.Laws.{SectorsMarkTheirPages}
 use Rattle.unit_files.proofs.Overwriting.{at, over-before, over-behind, over-least, over-most, over-reach}
 use Rattle.unit_files.proofs.Pages.{pages-least, pages-most, last-unmarked}
 use Rattle.unit_files.proofs.Marks.{page-split, page-rest, page-is, sector-page, sector-some, sector-below, page-order, unmarked}
-use Rattle.unit_files.proofs.FlushLaws.{at-marked, at-other, reached, from-front}
+use Rattle.unit_files.proofs.FlushLaws.{some-same, at-marked, at-other, reached, from-front}
+use Rattle.unit_files.proofs.InStep.{step-covered}
 
 -- ---- the copy is written over itself
 
@@ -142,17 +145,101 @@ module _ (marks : List Bool) (bytes old piece : List ℕ) (sector : ℕ) (below 
       ∙ is-at (page_of i) (i % page_bytes) (page-rest i) (omega (arith, split, same, within))
       ∙ ap (λ (n : ℕ). at after n) (sym split))
 
-sector : (a : Attachment) (disk : Buffer) (old piece : List ℕ) (sector : ℕ) → sector < disk_sectors
-    → length piece ≡ sector_bytes → length disk.marks ≡ disk_pages → written_back None disk old ≡ disk.bytes
-    → written_back None (sector_written (Some a) disk sector piece) old ≡ (sector_written (Some a) disk sector piece).bytes
+sector : (a : Attachment) (disk : Buffer) (marks : List Bool) (old piece : List ℕ) (sector : ℕ) → sector < disk_sectors
+    → length piece ≡ sector_bytes → length marks ≡ disk_pages → pages_back None disk marks old ≡ disk.bytes
+    → pages_back None (sector_written (Some a) disk sector piece) (marks_written (Some a) disk.bytes sector marks) old
+    ≡ (sector_written (Some a) disk sector piece).bytes
 unfolding with_sector
-sector a disk old piece number below long all was =
-    cond_both a.read_only disk (record {
-      bytes = with_sector disk.bytes number piece;
-      written = true;
-      marks = with_marks disk.bytes number disk.marks;
-    }) (λ (d : Buffer). written_back None d old ≡ d.bytes)
-    (λ _. was) (λ _. sector-left disk.marks disk.bytes old piece number below long all was)
+sector a disk marks old piece number below long all was = by-mode a.read_only
+  where
+    by-mode : (b : Bool)
+        → pages_back None (if b then disk else record { bytes = with_sector disk.bytes number piece; written = true })
+        (if b then marks else with_marks disk.bytes number marks) old
+        ≡ (if b then disk else record { bytes = with_sector disk.bytes number piece; written = true }).bytes
+    by-mode true = was
+    by-mode false = sector-left marks disk.bytes old piece number below long all was
+
+-- ---- the pages in which the copy changes
+
+module _ (marks : List Bool) (bytes piece : List ℕ) (sector : ℕ) (below : sector < disk_sectors)
+    (long : length piece ≡ sector_bytes) (all : length marks ≡ disk_pages) where
+  abbrev start : ℕ
+  start = sector * sector_bytes
+
+  abbrev written : List ℕ
+  written = overwritten bytes start piece
+
+  abbrev first : ℕ
+  first = page_of (min (length bytes) start)
+
+  in-order : first ≤ page_of start
+  in-order = page-order (min (length bytes) start) start (omega arith)
+
+  no-mark : (page : ℕ) → get_or (with_marks bytes sector marks) page false ≡ false
+      → (get_or marks page false ≡ false) × ((page < first) ⊎ (page_of start < page))
+  no-mark page not =
+      unmarked first (page_of start) marks in-order (omega (arith, in-order, sector-below sector below, all)) page not
+
+  -- a page in front of those that are marked has all its bytes in front of the sector and of the gap
+  in-front : (page k : ℕ) → k < page_bytes → page < first → page * page_bytes + k < min (length bytes) start
+  in-front page k low before = elim (cases_lt (page * page_bytes + k) (min (length bytes) start)) [
+    | inl is ↦ is
+    | inr past ↦
+        let order = page-order (min (length bytes) start) (page * page_bytes + k) past in
+        absurd (omega (arith, order, page-is page k low, before))
+  ]
+
+  -- .. and one behind them has none of the sector
+  behind-all : (page k : ℕ) → k < page_bytes → page_of start < page → start + sector_bytes ≤ page * page_bytes + k
+  behind-all page k low past = elim (cases_lt (page * page_bytes + k) (start + sector_bytes)) [
+    | inr is ↦ is
+    | inl within ↦
+        let last : sector_bytes - 1 < sector_bytes = omega (arith, sector-some) in
+        let order = page-order (page * page_bytes + k) (start + (sector_bytes - 1)) (omega (arith, within)) in
+        absurd (omega (arith, order, page-is page k low, sector-page sector (sector_bytes - 1) last, past))
+  ]
+
+  same-slice : (page k : ℕ) → k < page_bytes → get_or (with_marks bytes sector marks) page false ≡ false
+      → slice_get bytes (page * page_bytes + k) ≡ slice_get written (page * page_bytes + k)
+  same-slice page k low not = elim (no-mark page not).1 [
+    | inl before ↦
+        let here = in-front page k low before in
+        let grown = over-least bytes start piece in
+        some-same bytes written (page * page_bytes + k) (omega (arith, here)) (omega (arith, here, grown))
+        (sym (over-before bytes start piece (page * page_bytes + k) (omega (arith, here))))
+    | inr past ↦
+        let here = behind-all page k low past in
+        elim (cases_lt (page * page_bytes + k) (length bytes)) [
+          | inl in_old ↦
+              let grown = over-least bytes start piece in
+              some-same bytes written (page * page_bytes + k) in_old (omega (arith, in_old, grown))
+              (sym (over-behind bytes start piece (page * page_bytes + k) (omega (arith, here, long))))
+          | inr out ↦
+              let most = over-most bytes start piece (page * page_bytes + k) out (omega (arith, here, long)) in
+              slice_get_past bytes (page * page_bytes + k) out ∙ sym (slice_get_past written (page * page_bytes + k) most)
+        ]
+  ]
+
+-- a sector is written where there is a file that may be written
+pub covers-sector : (old new : AttachedFiles) (piece : List ℕ) (sector : ℕ) → sector < disk_sectors → length piece ≡ sector_bytes
+    → length old.marks ≡ disk_pages → new.disk ≡ record { bytes = with_sector old.disk.bytes sector piece; written = true }
+    → new.marks ≡ with_marks old.disk.bytes sector old.marks → MarksCover old new
+unfolding with_sector
+covers-sector old new piece sector below long all copy marks = record {
+  no_shorter =
+      let grown = over-least old.disk.bytes (sector * sector_bytes) piece in
+      let is = ap (λ (d : Buffer). length d.bytes) copy in omega (arith, grown, is);
+  kept = λ page not.
+      (no-mark old.marks old.disk.bytes piece sector below long all page (ap (λ (l : List Bool). get_or l page false) (sym marks) ∙ not)).0;
+  same = λ page k low not.
+      same-slice old.marks old.disk.bytes piece sector below long all page k low (ap (λ (l : List Bool). get_or l page false) (sym marks) ∙ not)
+      ∙ ap (λ (d : Buffer). slice_get d.bytes (page * page_bytes + k)) (sym copy);
+  unwritten = λ none. let written = ap (λ (d : Buffer). d.written) copy in absurd (cc);
+}
 
 pub sectors-mark : SectorsMarkTheirPages
-sectors-mark = record { same = λ disk. itself disk.marks disk.bytes; sector = sector }
+sectors-mark = record {
+  same = λ disk marks. itself marks disk.bytes;
+  sector = sector;
+  step = λ old new files slots covers step. step-covered old new files slots covers step;
+}

@@ -3,8 +3,8 @@ use Rattle.std.proofs.Common.{◌≡◌, ◌<◌, ◌≤◌, ◌+◌, ◌-◌, �
 use Rattle.std.proofs.lemmas.Bool.{cases_lt}
 use Rattle.std.proofs.lemmas.List.{get_or-drop, get_or-take, length-take, length-drop, take_all, take-take, drop-take, drop_all}
 use Rattle.file_traits.specs.Lists.{overwritten}
-use Rattle.unit_files.specs.Buffer.{page_bytes}
-use Rattle.unit_files.specs.Acts.{written_page, written_pages}
+use Rattle.unit_files.specs.Pages.{page_bytes}
+use Rattle.unit_files.specs.InStep.{written_page, written_pages}
 use Rattle.unit_files.proofs.Overwriting.{at, over-before, over-within, over-behind, over-least, over-most, over-reach}
 
 -- ---- one page

@@ -3,11 +3,12 @@ use Rattle.std.specs.Prelude.{bytes_eq}
 use Rattle.std.proofs.Common.{◌≡◌, ◌<◌, ◌≤◌, ◌+◌, ◌-◌, ◌*◌, ℕ, Bool, true, false, List, [], ◌∷◌, length, get_or, take, drop, Some, None, refl, ap, sym, ◌∙◌, arith, if◌then◌else◌}
 use Rattle.std.proofs.lemmas.List.{take_more, take_all, length-take, length-take-le, length-drop}
 use Rattle.file_traits.specs.Lists.{NamedBytes, changed, overwritten}
-use Rattle.unit_files.specs.Buffer.{page_bytes}
+use Rattle.unit_files.specs.Pages.{page_bytes}
+use Rattle.unit_files.specs.InStep.{written_page, written_pages}
 use Rattle.file_traits.specs.declared.files.FileCall.{FileCall}
 use Rattle.file_traits.specs.declared.files.FileCall.TheVariants.{Write}
 use Rattle.unit_files.specs.declared.faults.UnitFault.{UnitFault}
-use Rattle.unit_files.specs.Acts.{same_call, failure_at, written_page, written_pages}
+use Rattle.unit_files.specs.Acts.{same_call, failure_at}
 use Rattle.unit_files.specs.Answers.{failure_in}
 use Rattle.unit_files.proofs.Pages.{pages-more, pages-failed}
 

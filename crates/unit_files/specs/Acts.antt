@@ -1,6 +1,6 @@
 -- What is done with the files of units, on all files by their names. A call on a file fails exactly where the outside
 -- says so; the numbers of open files are no part of this.
-use Rattle.std.specs.Prelude.{ℕ, ◌+◌, ◌&&◌, Bool, true, false, nat_lt, List, [], ◌∷◌, length, take, drop, get_or, Option, Some}
+use Rattle.std.specs.Prelude.{ℕ, ◌&&◌, Bool, true, false, nat_lt, List, [], ◌∷◌, ◌++◌, length, take, drop, get_or, Option, Some}
 use Rattle.std.specs.Prelude.{None, is_some, if◌then◌else◌}
 use Rattle.file_traits.specs.declared.files.FileCall.TheVariants.{Opening, Length, Read, Write, Closing}
 pub use Rattle.file_traits.specs.Failures.{Failure, same_call, failure_at}
@@ -9,7 +9,7 @@ use Rattle.unit_trait.specs.declared.kind.UnitName.{UnitName}
 use Rattle.unit_files.specs.declared.modes.AttachMode.{AttachMode}
 use Rattle.unit_files.specs.declared.modes.AttachMode.TheVariants.{Any, MustExist, New, ReadOnly}
 use Rattle.unit_files.specs.Attachments.{Attachment, attachment_at, with_attachment, longest_file, is_disk, only_writes}
-use Rattle.unit_files.specs.Buffer.{Buffer, page_bytes, no_marks, no_buffer}
+use Rattle.unit_files.specs.Buffer.{Buffer, no_buffer}
 
 -- ---- a file is attached
 
@@ -104,7 +104,7 @@ attached_by said mode unit name attached = attached
 -- the disk's copy behind that, where its file has these bytes
 abbrev pub buffer_by : AttachSaid → UnitName → List ℕ → Buffer → Buffer
 buffer_by (Attached count) unit bytes disk =
-    if is_disk unit.kind then record { bytes = bytes; written = false; marks = no_marks } else disk
+    if is_disk unit.kind then record { bytes = bytes; written = false } else disk
 buffer_by said unit bytes disk = disk
 
 -- ---- what the disk holds of its file is written back
@@ -135,20 +135,15 @@ abbrev pub piece_of : Option Failure → List ℕ → List ℕ
 piece_of (Some f) piece = take f.done piece
 piece_of None piece = piece
 
--- the page of a copy at a place is written over a file where it is marked, as far as the copy has bytes there
-abbrev pub written_page : Bool → ℕ → List ℕ → List ℕ → List ℕ
-written_page mark place bytes old = if mark then overwritten old place (take page_bytes (drop place bytes)) else old
+-- the bytes of a copy over those of its file: all of them; or, where the write fails, those that it wrote, in front of what
+-- the file has from there on
+abbrev pub written_over : Option Failure → List ℕ → List ℕ → List ℕ
+written_over (Some f) bytes old = take f.done bytes ++ drop f.done old
+written_over None bytes old = bytes
 
--- each marked page, from a place on
-abbrev pub written_pages : List Bool → ℕ → List ℕ → List ℕ → List ℕ
-written_pages [] place bytes old = old
-written_pages (mark ∷ marks) place bytes old =
-    written_pages marks (place + page_bytes) bytes (written_page mark place bytes old)
-
--- The bytes of a file once the marked pages of the copy were written over it, from the front. A failed write wrote those in
--- front of its own, and of that the first bytes: what they have of the first `done` bytes of the copy.
+-- the bytes of a file once the copy was written back over it
 abbrev pub written_back : Option Failure → Buffer → List ℕ → List ℕ
-written_back fault disk old = written_pages disk.marks 0 (piece_of (failure_at Write fault) disk.bytes) old
+written_back fault disk old = written_over (failure_at Write fault) disk.bytes old
 
 -- the files behind that
 unfoldable pub flush_files : Option Failure → UnitName → Option Attachment → Buffer → List NamedBytes → List NamedBytes
@@ -158,7 +153,7 @@ flush_files fault unit (Some a) disk files =
 
 -- the disk's copy behind that
 abbrev pub buffer_flushed : FlushSaid → UnitName → Buffer → Buffer
-buffer_flushed Flushed unit disk = if is_disk unit.kind then record disk { written = false; marks = no_marks } else disk
+buffer_flushed Flushed unit disk = if is_disk unit.kind then record disk { written = false } else disk
 buffer_flushed said unit disk = disk
 
 -- ---- A file is detached: what the disk holds of it is written back, and then it is closed. The unit has none behind

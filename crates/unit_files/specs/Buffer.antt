@@ -1,6 +1,6 @@
 -- The disk's copy of its file: the bytes that were read when the file was attached, with the sectors that were written
 -- since. They are written back where the disk is detached.
-use Rattle.std.specs.Prelude.{ℕ, ◌+◌, ◌-◌, ◌*◌, ◌/◌, ◌^◌, Bool, true, false, List, [], ◌++◌, length, take, drop, min, replicate}
+use Rattle.std.specs.Prelude.{ℕ, ◌*◌, ◌^◌, Bool, true, false, List, [], ◌++◌, take, drop, replicate}
 use Rattle.std.specs.Prelude.{Option, Some, None, if◌then◌else◌}
 use Rattle.file_traits.specs.Lists.{overwritten}
 use Rattle.unit_trait.specs.declared.kind.Kind.TheVariants.{Dsk}
@@ -8,37 +8,26 @@ use Rattle.unit_trait.specs.declared.kind.UnitName.{UnitName}
 use Rattle.unit_files.specs.declared.faults.SectorAnswer.{SectorAnswer}
 use Rattle.unit_files.specs.declared.faults.SectorAnswer.TheVariants.{Done, NoFile, ReadOnly}
 use Rattle.unit_files.specs.Attachments.{Attachment, Held, no_files}
-
--- how many bytes a page of the copy has
-unfoldable pub page_bytes : ℕ
-page_bytes = 2 ^ 12
-
--- how many pages the disk has
-unfoldable pub disk_pages : ℕ
-disk_pages = 2 ^ 10
+use Rattle.unit_files.specs.Pages.{no_marks}
 
 pub record Buffer : Type 0 where
   pub bytes : List ℕ
   -- whether a sector was written since the file was attached, or since the bytes were last written back
   pub written : Bool
-  -- the pages in which something was written since then, a mark each from the front
-  pub marks : List Bool
-
--- no page is marked
-abbrev pub no_marks : List Bool
-no_marks = replicate disk_pages false
 
 -- no file is attached
 abbrev pub no_buffer : Buffer
-no_buffer = record { bytes = []; written = false; marks = no_marks }
+no_buffer = record { bytes = []; written = false }
 
--- what is attached to the units, and the disk's copy
+-- What is attached to the units, and the disk's copy; and the pages in which something was written since its bytes were read
+-- or written back, a mark each from the front, which no definition of what is done speaks of.
 pub record AttachedFiles : Type 0 where
   pub slots : List (Option Held)
   pub disk : Buffer
+  pub marks : List Bool
 
 abbrev pub nothing_attached : AttachedFiles
-nothing_attached = record { slots = no_files; disk = no_buffer }
+nothing_attached = record { slots = no_files; disk = no_buffer; marks = no_marks }
 
 abbrev pub disk_unit : UnitName
 disk_unit = record { kind = Dsk; unit = 0 }
@@ -63,20 +52,6 @@ sector_of bytes sector = take sector_bytes (drop (sector * sector_bytes) bytes +
 unfoldable pub with_sector : List ℕ → ℕ → List ℕ → List ℕ
 with_sector bytes sector piece = overwritten bytes (sector * sector_bytes) piece
 
--- the page of a byte
-unfoldable pub page_of : ℕ → ℕ
-page_of place = place / page_bytes
-
--- the marks, with those from a page up to another one set
-unfoldable pub marked : ℕ → ℕ → List Bool → List Bool
-marked first last marks = take first marks ++ replicate (last + 1 - first) true ++ drop (last + 1) marks
-
--- The marks once a sector was written: that of its page, and of every page in front of it in which its gap lies. The gap
--- begins where the copy ended.
-abbrev pub with_marks : List ℕ → ℕ → List Bool → List Bool
-with_marks bytes sector marks =
-    marked (page_of (min (length bytes) (sector * sector_bytes))) (page_of (sector * sector_bytes)) marks
-
 -- ---- a sector is read or written
 
 abbrev pub said_of_reading : Option Attachment → SectorAnswer
@@ -97,8 +72,4 @@ abbrev pub sector_written : Option Attachment → Buffer → ℕ → List ℕ �
 sector_written None disk sector piece = disk
 sector_written (Some a) disk sector piece =
     if a.read_only then disk
-    else record {
-      bytes = with_sector disk.bytes sector piece;
-      written = true;
-      marks = with_marks disk.bytes sector disk.marks;
-    }
+    else record { bytes = with_sector disk.bytes sector piece; written = true }

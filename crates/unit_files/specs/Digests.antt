@@ -1,6 +1,6 @@
 -- The length and the digest of a unit's file: what the disk holds of it is written back first, and then the file is
 -- measured and read as it stands there.
-use Rattle.std.specs.Prelude.{◌≡◌, ◌⊎◌, ℕ, ◌≤◌, nat_lt, true, IsTrue, List, length, Option, Some, None, Result, Ok, Err}
+use Rattle.std.specs.Prelude.{◌≡◌, ◌⊎◌, ℕ, ◌≤◌, nat_lt, Bool, true, IsTrue, List, length, Option, Some, None, Result, Ok, Err}
 use Rattle.std.specs.Prelude.{if◌then◌else◌}
 use Rattle.sha2.specs.Sha256.{sha256}
 use Rattle.file_traits.specs.declared.files.FileId.{FileId}
@@ -16,6 +16,7 @@ use Rattle.unit_files.specs.Attachments.{Attachment, Held, is_disk}
 use Rattle.unit_files.specs.Buffer.{Buffer, disk_bytes}
 use Rattle.unit_files.specs.Acts.{Failure, failure_at, is_due_back, FlushSaid, HasNone, NotFlushed, Flushed}
 use Rattle.unit_files.specs.Acts.{flush_said, flush_files, buffer_flushed}
+use Rattle.unit_files.specs.InStep.{marks_flushed}
 use Rattle.unit_files.specs.Answers.{failure_in}
 use Rattle.unit_files.specs.Causes.{IsQuiet, IsFaultOf}
 use Rattle.unit_files.specs.Shapes.{IsFaultAt}
@@ -61,6 +62,10 @@ digest_said fault unit a disk files =
 -- the disk's copy behind that
 abbrev pub buffer_digested : Option Failure → UnitName → Option Attachment → Buffer → Buffer
 buffer_digested fault unit a disk = buffer_flushed (flush_said fault unit a disk) unit disk
+
+-- .. and its marks
+abbrev pub marks_digested : Option Failure → UnitName → Option Attachment → Buffer → List Bool → List Bool
+marks_digested fault unit a disk marks = marks_flushed (flush_said fault unit a disk) unit marks
 
 -- ---- the answers
 

@@ -1,6 +1,8 @@
 pub mod Attachments
+pub mod Pages
 pub mod Buffer
 pub mod Acts
+pub mod InStep
 pub mod Answers
 pub mod Open
 pub mod Causes

@@ -5,7 +5,8 @@ use Rattle.file_traits.specs.declared.files.FileId.{FileId}
 use Rattle.unit_trait.specs.declared.kind.UnitName.{UnitName}
 use Rattle.unit_files.specs.declared.slots.UnitFile.{UnitFile}
 use Rattle.unit_files.specs.declared.disk_copy.DiskCopy.{DiskCopy}
-use Rattle.unit_files.specs.Buffer.{Buffer, disk_bytes, disk_pages, no_marks}
+use Rattle.unit_files.specs.Pages.{disk_pages, no_marks}
+use Rattle.unit_files.specs.Buffer.{Buffer, disk_bytes}
 use Rattle.unit_files.specs.Attachments.{Held, held_at, attachments_of, attachment_at}
 
 abbrev pub held_of : UnitFile → Held
@@ -19,7 +20,7 @@ abbrev pub marks_of : List Bool → List Bool
 marks_of marks = marks ++ replicate (disk_pages - length marks) false
 
 abbrev pub buffer_of : DiskCopy → Buffer
-buffer_of d = record { bytes = d.bytes.items; written = d.written; marks = marks_of d.marks.items }
+buffer_of d = record { bytes = d.bytes.items; written = d.written }
 
 -- The copy of a file has room for all bytes of the disk, no more than these, and a mark for each page.
 pub record IsCopy (d : DiskCopy) : Type 0 where

@@ -1,9 +1,11 @@
-ghost use Rattle.std.specs.Prelude.{◌≡◌, ◌≤◌, ◌<◌, List, IsTrue, IfOk, IfSome, OnErr, Ok, length, option_map, is_some, Some, None};
+ghost use Rattle.std.specs.Prelude.{◌≡◌, ◌≤◌, ◌<◌, List, IsTrue, IfOk, IfSome, OnOk, OnErr, Ok, length, option_map, is_some, Some, None};
 ghost use Rattle.std.specs.Prelude.{true, false, not, map, if◌then◌else◌, vec_capacity};
 ghost use Rattle.file_traits.specs.Lists.{bytes_of};
 ghost use Rattle.file_traits.specs.State.{Opened, IsOpen, without};
 ghost use Rattle.unit_files.specs.Attachments.{held_at, with_held, attachments_of, with_attachment, is_disk};
-ghost use Rattle.unit_files.specs.Buffer.{nothing_attached, no_buffer, no_marks};
+ghost use Rattle.unit_files.specs.Pages.{no_marks};
+ghost use Rattle.unit_files.specs.Buffer.{nothing_attached, no_buffer};
+ghost use Rattle.unit_files.specs.InStep.{InStep, marks_flushed, marks_left, pages_back, pages_flushed};
 ghost use Rattle.unit_files.specs.Attachments.{attachment_at, takes_attachment, may_write, read_only_at, only_writes};
 ghost use Rattle.unit_files.specs.Attachments.{longest_file, file_place, IsFileName, HaveFileNames, is_any_attached};
 ghost use Rattle.unit_files.specs.Acts.{attach_said, attach_files, attached_by, buffer_by, refused_first};
@@ -13,7 +15,7 @@ ghost use Rattle.unit_files.specs.Answers.{said_of_detach, failure_of_detach, sa
 ghost use Rattle.unit_files.specs.Open.{AllOpen, Around, HaveOwnNumbers, IsFree};
 ghost use Rattle.unit_files.specs.Causes.{OnlyNewCounts, AttachCause, CountsAttach, DetachCause, FlushCause, OnlyKept, AreFrom};
 ghost use Rattle.unit_files.specs.Shapes.{CloseCause, WriteCause, IsPart};
-ghost use Rattle.unit_files.specs.Acts.{detached, is_due_back, written_back};
+ghost use Rattle.unit_files.specs.Acts.{detached, is_due_back};
 ghost use Rattle.unit_files.specs.Answers.{failure_in};
 ghost use Rattle.file_traits.specs.Lists.{changed};
 ghost use Rattle.file_traits.specs.State.{IsWritable, name_at};
@@ -42,11 +44,15 @@ impl Model for Attached {
     ghost use Rattle.unit_files.specs.Attachments.{file_units, writers_write, HaveFileNames};
     ghost use Rattle.unit_files.specs.Buffer.{AttachedFiles};
     ghost use Rattle.unit_files.specs.Open.{HaveOwnNumbers};
-    ghost use Rattle.unit_files.specs.View.{slot_of, buffer_of, CanWrite};
+    ghost use Rattle.unit_files.specs.View.{slot_of, buffer_of, marks_of, CanWrite};
 
     ghost Value = { AttachedFiles };
 
-    ghost view = { λ a. record { slots = map slot_of a.slots.items; disk = buffer_of a.disk } };
+    ghost view = { λ a. record {
+      slots = map slot_of a.slots.items;
+      disk = buffer_of a.disk;
+      marks = marks_of a.disk.marks.items;
+    } };
 
     ghost invariant = { λ a. (length a.slots.items ≡ file_units) × IsTrue (writers_write (map slot_of a.slots.items))
         × CanWrite (map slot_of a.slots.items) a.disk × HaveOwnNumbers (map slot_of a.slots.items)
@@ -98,8 +104,10 @@ impl Attached {
             ≡ buffer_by said unit (bytes_of (F.state files.new).files name.now) self.old.disk) }
         ensures there { IfOk result (λ n. IsTrue (is_some (attachment_at (attachments_of self.new.slots) unit))) }
         ensures unwritten { IfOk result (λ n. is_disk unit.kind ≡ true → self.new.disk.written ≡ false) }
-        ensures unmarked { IfOk result (λ n. is_disk unit.kind ≡ true → self.new.disk.marks ≡ no_marks) }
+        ensures unmarked { IfOk result (λ n. is_disk unit.kind ≡ true → self.new.marks ≡ no_marks) }
+        ensures step { IsTrue F.tells → OnOk result (is_disk unit.kind ≡ true → InStep self.new (F.state files.new).files) }
         ensures other { is_disk unit.kind ≡ false → self.new.disk ≡ self.old.disk }
+        ensures other_marks { is_disk unit.kind ≡ false → self.new.marks ≡ self.old.marks }
         ensures refused { OnErr result (self.new ≡ self.old) }
         ensures files { IsTrue F.tells → IfSome (said_of_attach result) (λ said. (F.state files.new).files
             ≡ attach_files (failure_of_attach result) mode unit name.now (attachments_of self.old.slots)
@@ -146,7 +154,7 @@ impl Attached {
     /// is attached to the unit, also where the closing failed, which is answered as a fault. `NotAttached` comes
     /// exactly where nothing was attached. `Failed` comes where the file could not be written: it is still attached,
     /// and holds what `flush` leaves in it.
-    #[tactic(auto, unfolding(crate::specs::Acts::flush_files))]
+    #[tactic(auto, unfolding(crate::specs::InStep::pages_flushed))]
     pub fn detach<F: Files>(
         &mut self,
         unit: UnitName,
@@ -159,10 +167,15 @@ impl Attached {
         ensures attached { attachments_of self.new.slots
             ≡ detached_by (said_of_detach result) unit (attachments_of self.old.slots) }
         ensures disk { self.new.disk ≡ buffer_left (said_of_detach result) unit self.old.disk }
+        ensures marks { self.new.marks ≡ marks_left (said_of_detach result) unit self.old.marks }
         ensures refused { OnErr result (self.new ≡ self.old) }
         ensures part { OnErr result (IsPart (failure_of_detach result) self.old.disk) }
-        ensures files { (F.state files.new).files ≡ flush_files (failure_of_detach result) unit
-            (attachment_at (attachments_of self.old.slots) unit) self.old.disk (F.state files.old).files }
+        ensures pages { (F.state files.new).files ≡ pages_flushed (failure_of_detach result) unit
+            (attachment_at (attachments_of self.old.slots) unit) self.old.disk self.old.marks (F.state files.old).files }
+        ensures files { InStep self.old (F.state files.old).files → (F.state files.new).files
+            ≡ flush_files (failure_of_detach result) unit (attachment_at (attachments_of self.old.slots) unit)
+            self.old.disk (F.state files.old).files }
+        ensures step { InStep self.old (F.state files.old).files → InStep self.new (F.state files.new).files }
         ensures open { AllOpen self.new.slots (F.state files.new).opened }
         ensures around { (base : List Opened) → Around self.old.slots base (F.state files.old).opened
             → Around self.new.slots base (F.state files.new).opened }
@@ -180,7 +193,7 @@ impl Attached {
     /// For another unit it does nothing. `NotAttached` comes exactly where nothing is attached. After `Failed` the
     /// pages in front of the one whose write failed are written, and of that one as much as the fault says, which
     /// counts from the front of the file. All of them are still to be written back.
-    #[tactic(auto, unfolding(crate::specs::Acts::flush_files))]
+    #[tactic(auto, unfolding(crate::specs::InStep::pages_flushed))]
     pub fn flush<F: Files>(&mut self, unit: UnitName, files: &mut F) -> Result<(), DetachFault>
         requires unit { IsTrue (takes_attachment unit) }
         requires open { AllOpen self.old.slots (F.state files.old).opened }
@@ -188,9 +201,14 @@ impl Attached {
             (attachment_at (attachments_of self.old.slots) unit) self.old.disk }
         ensures slots { self.new.slots ≡ self.old.slots }
         ensures disk { self.new.disk ≡ buffer_flushed (said_of_flush result) unit self.old.disk }
+        ensures marks { self.new.marks ≡ marks_flushed (said_of_flush result) unit self.old.marks }
         ensures part { OnErr result (IsPart (failure_of_flush result) self.old.disk) }
-        ensures files { (F.state files.new).files ≡ flush_files (failure_of_flush result) unit
-            (attachment_at (attachments_of self.old.slots) unit) self.old.disk (F.state files.old).files }
+        ensures pages { (F.state files.new).files ≡ pages_flushed (failure_of_flush result) unit
+            (attachment_at (attachments_of self.old.slots) unit) self.old.disk self.old.marks (F.state files.old).files }
+        ensures files { InStep self.old (F.state files.old).files → (F.state files.new).files
+            ≡ flush_files (failure_of_flush result) unit (attachment_at (attachments_of self.old.slots) unit)
+            self.old.disk (F.state files.old).files }
+        ensures step { InStep self.old (F.state files.old).files → InStep self.new (F.state files.new).files }
         ensures opened { (F.state files.new).opened ≡ (F.state files.old).opened }
         ensures cause { FlushCause result unit self.old.slots (F.state files.old) (F.state files.new) }
     {
@@ -223,6 +241,7 @@ impl Attached {
         requires open { AllOpen self.old.slots (F.state files.old).opened }
         ensures attached { attachments_of self.new.slots ≡ detached unit (attachments_of self.old.slots) }
         ensures disk { self.new.disk ≡ (if is_disk unit.kind then no_buffer else self.old.disk) }
+        ensures marks { self.new.marks ≡ (if is_disk unit.kind then no_marks else self.old.marks) }
         ensures files { (F.state files.new).files ≡ (F.state files.old).files }
         ensures open { AllOpen self.new.slots (F.state files.new).opened }
         ensures around { (base : List Opened) → Around self.old.slots base (F.state files.old).opened
@@ -327,7 +346,8 @@ impl Attached {
         ensures attachments { attachments_of self.new.slots
             ≡ with_attachment (attachments_of self.old.slots) unit (Some (held_of held).attachment) }
         ensures disk { self.new.disk ≡ (if is_disk unit.kind
-            then record { bytes = copy.bytes.items; written = false; marks = no_marks } else self.old.disk) }
+            then record { bytes = copy.bytes.items; written = false } else self.old.disk) }
+        ensures marks { self.new.marks ≡ (if is_disk unit.kind then no_marks else self.old.marks) }
     {
         self.slots[place_of(unit)] = Some(held);
         if is_disk(unit.kind) {
@@ -341,6 +361,7 @@ impl Attached {
         ensures held { self.new.slots ≡ with_held self.old.slots unit None }
         ensures attachments { attachments_of self.new.slots ≡ with_attachment (attachments_of self.old.slots) unit None }
         ensures disk { self.new.disk ≡ (if is_disk unit.kind then no_buffer else self.old.disk) }
+        ensures marks { self.new.marks ≡ (if is_disk unit.kind then no_marks else self.old.marks) }
     {
         self.slots[place_of(unit)] = None;
         if is_disk(unit.kind) {

@@ -3,8 +3,9 @@ ghost use Rattle.file_traits.specs.declared.files.FileCall.TheVariants.{Write};
 ghost use Rattle.file_traits.specs.State.{IsOpen, content};
 ghost use Rattle.unit_files.specs.Attachments.{attachments_of, attachment_at, takes_attachment};
 ghost use Rattle.unit_files.specs.Buffer.{Buffer};
-ghost use Rattle.unit_files.specs.Acts.{failure_at, flush_files};
-ghost use Rattle.unit_files.specs.Digests.{digest_said, digest_flushed, digest_measured, buffer_digested};
+ghost use Rattle.unit_files.specs.Acts.{failure_at, flush_files, flush_said};
+ghost use Rattle.unit_files.specs.InStep.{InStep, pages_flushed};
+ghost use Rattle.unit_files.specs.Digests.{digest_said, digest_flushed, digest_measured, behind_flush, buffer_digested, marks_digested};
 ghost use Rattle.unit_files.specs.Digests.{said_of_digest, failure_of_digest, MayDigest, DigestCause, FileDigestCause};
 ghost use Rattle.unit_files.specs.Open.{AllOpen};
 ghost use Rattle.unit_files.specs.Shapes.{IsPart};
@@ -29,15 +30,26 @@ impl Attached {
     ) -> Result<FileDigest, DetachFault>
         requires unit { IsTrue (takes_attachment unit) }
         requires open { AllOpen self.old.slots (F.state files.old).opened }
-        ensures said { IsTrue F.tells → said_of_digest result ≡ digest_said (failure_of_digest result) unit
-            (attachment_at (attachments_of self.old.slots) unit) self.old.disk (F.state files.old).files }
+        ensures read { IsTrue F.tells → said_of_digest result ≡ behind_flush
+            (flush_said (failure_of_digest result) unit (attachment_at (attachments_of self.old.slots) unit) self.old.disk)
+            (digest_flushed (failure_of_digest result) (attachment_at (attachments_of self.old.slots) unit)
+            (F.state files.new).files) }
+        ensures said { IsTrue F.tells → InStep self.old (F.state files.old).files → said_of_digest result
+            ≡ digest_said (failure_of_digest result) unit (attachment_at (attachments_of self.old.slots) unit)
+            self.old.disk (F.state files.old).files }
         ensures may { MayDigest result unit (attachment_at (attachments_of self.old.slots) unit) self.old.disk }
         ensures slots { self.new.slots ≡ self.old.slots }
         ensures disk { self.new.disk ≡ buffer_digested (failure_of_digest result) unit
             (attachment_at (attachments_of self.old.slots) unit) self.old.disk }
+        ensures marks { self.new.marks ≡ marks_digested (failure_of_digest result) unit
+            (attachment_at (attachments_of self.old.slots) unit) self.old.disk self.old.marks }
         ensures part { OnErr result (IsPart (failure_of_digest result) self.old.disk) }
-        ensures files { (F.state files.new).files ≡ flush_files (failure_of_digest result) unit
-            (attachment_at (attachments_of self.old.slots) unit) self.old.disk (F.state files.old).files }
+        ensures pages { (F.state files.new).files ≡ pages_flushed (failure_of_digest result) unit
+            (attachment_at (attachments_of self.old.slots) unit) self.old.disk self.old.marks (F.state files.old).files }
+        ensures files { InStep self.old (F.state files.old).files → (F.state files.new).files
+            ≡ flush_files (failure_of_digest result) unit (attachment_at (attachments_of self.old.slots) unit)
+            self.old.disk (F.state files.old).files }
+        ensures step { InStep self.old (F.state files.old).files → InStep self.new (F.state files.new).files }
         ensures opened { (F.state files.new).opened ≡ (F.state files.old).opened }
         ensures cause { DigestCause result unit self.old.slots (F.state files.old) (F.state files.new) }
     {

@@ -2,6 +2,7 @@ ghost use Rattle.std.specs.Prelude.{◌≡◌, ◌<◌};
 ghost use Rattle.unit_files.specs.Attachments.{attachments_of, attachment_at};
 ghost use Rattle.unit_files.specs.Buffer.{disk_unit, disk_sectors};
 ghost use Rattle.unit_files.specs.Buffer.{said_of_reading, sector_read, said_of_writing, sector_written};
+ghost use Rattle.unit_files.specs.InStep.{marks_written, MarksCover};
 
 use crate::attached::Attached;
 use crate::faults::SectorAnswer;
@@ -42,6 +43,9 @@ impl Attached {
         ensures slots { self.new.slots ≡ self.old.slots }
         ensures disk { self.new.disk ≡ sector_written (attachment_at (attachments_of self.old.slots) disk_unit)
             self.old.disk sector from.now }
+        ensures marks { self.new.marks ≡ marks_written (attachment_at (attachments_of self.old.slots) disk_unit)
+            self.old.disk.bytes sector self.old.marks }
+        ensures covers { MarksCover self.old self.new }
     {
         if self.held_file(DISK).is_none() {
             return SectorAnswer::NoFile;

@@ -1,7 +1,8 @@
 ghost use Rattle.std.specs.Prelude.{◌≡◌, ◌≤◌, ◌<◌, ◌*◌, ◌+◌, ◌-◌, ◌++◌, IfOk, false, true, [], length, take, drop, min, replicate};
 ghost use Rattle.std.specs.Prelude.{vec_len, vec_capacity};
-ghost use Rattle.unit_files.specs.Buffer.{disk_bytes, disk_pages, disk_sectors, marked, page_of};
-ghost use Rattle.unit_files.specs.Buffer.{sector_bytes, sector_of, with_marks, with_sector};
+ghost use Rattle.unit_files.specs.Pages.{disk_pages, marked, page_of};
+ghost use Rattle.unit_files.specs.Buffer.{disk_bytes, disk_sectors, sector_bytes, sector_of, with_sector};
+ghost use Rattle.unit_files.specs.InStep.{with_marks};
 ghost use Rattle.unit_files.specs.View.{IsCopy, IsEmptyCopy, IsNewCopy, IsNoCopy, marks_of};
 
 use crate::disk::SECTOR_BYTES;
@@ -38,7 +39,7 @@ impl DiskCopy {
 
     /// With room for all pages of the disk, and nothing in them. This is the only call that takes memory for a copy.
     /// What it takes is not written, but for the marks, so that the system need not give it before there are bytes.
-    #[tactic(auto, unfolding(crate::specs::Buffer::disk_bytes, crate::specs::Buffer::disk_pages))]
+    #[tactic(auto, unfolding(crate::specs::Buffer::disk_bytes, crate::specs::Pages::disk_pages))]
     pub(crate) fn with_pages(alloc: Global) -> Result<DiskCopy, AllocError>
         ensures { IfOk result IsEmptyCopy }
     {
@@ -115,7 +116,7 @@ fn mark_pages(marks: &mut Vec<bool>, count: usize, sector: u16)
 }
 
 // Sets the marks from one page up to another.
-#[tactic(auto, unfolding(crate::specs::Buffer::marked))]
+#[tactic(auto, unfolding(crate::specs::Pages::marked))]
 fn mark_from(marks: &mut Vec<bool>, first: usize, last: usize)
     requires order { first ≤ last }
     requires below { last < length marks.old.items }

@@ -2,8 +2,9 @@ ghost use Rattle.std.specs.Prelude.{◌≡◌, ◌<◌, ◌≤◌, ◌+◌, ◌^
 ghost use Rattle.file_traits.specs.Lists.{changed};
 ghost use Rattle.file_traits.specs.State.{IsOpen, IsWritable, name_at};
 ghost use Rattle.file_traits.specs.declared.files.FileCall.TheVariants.{Write};
-ghost use Rattle.unit_files.specs.Acts.{failure_at, piece_of, written_pages};
-ghost use Rattle.unit_files.specs.Buffer.{disk_pages, page_bytes};
+ghost use Rattle.unit_files.specs.Acts.{failure_at, piece_of};
+ghost use Rattle.unit_files.specs.Pages.{disk_pages, page_bytes};
+ghost use Rattle.unit_files.specs.InStep.{written_pages};
 ghost use Rattle.unit_files.specs.View.{IsCopy};
 ghost use Rattle.unit_files.specs.Shapes.{EndsWithin, WriteCause, failure_of_writing, page_left};
 
@@ -63,7 +64,7 @@ fn write_pages<F: Files>(
 }
 
 // The page of a copy at a place, as far as the copy has bytes there.
-#[tactic(auto, unfolding(crate::specs::Buffer::page_bytes))]
+#[tactic(auto, unfolding(crate::specs::Pages::page_bytes))]
 fn page_at(bytes: &[u8], place: usize) -> &[u8]
     ensures { result.now ≡ take page_bytes (drop place bytes.now) }
 {

@@ -2,6 +2,7 @@ use Rattle.std.proofs.Common.{◌≡◌, IsTrue, ap, sym, arith, rules}
 use Rattle.unit_trait.specs.declared.kind.UnitName.{UnitName}
 use Rattle.unit_files.specs.Attachments.{takes_attachment}
 use Rattle.unit_files.specs.Buffer.{AttachedFiles}
+use Rattle.unit_files.specs.InStep.{InStep}
 use Rattle.file_commands.specs.AllUnits.{filed_of}
 use Rattle.file_commands.proofs.Emptying.{Calls, empties-none, empties-kept, empties-more, kept-whole, unwritten-here, still-unwritten, nothing-left, all-tail, apart-tail, apart-head, later-first, no-disk-first}
 use Rattle.file_commands.proofs.OwnFiles.{own-both}
@@ -20,7 +21,7 @@ detach_each-requires g t c κs within =
 
 pub returns-in-None-clause-empties : goal.returns-in-None-clause-empties
 returns-in-None-clause-empties g t c =
-    empties-none c.args.stamp.command c.args.stamp.time c.args.units.now (filed_of c.args.attached.now (g.F.Files.state c.args.files.now).files) c.args.notes.now.items (g.F.Files.state c.args.files.now)
+    empties-none (InStep c.args.attached.now (g.F.Files.state c.args.files.now).files) c.args.stamp.command c.args.stamp.time c.args.units.now (filed_of c.args.attached.now (g.F.Files.state c.args.files.now).files) c.args.notes.now.items (g.F.Files.state c.args.files.now)
     (nothing-left c.args.units.now c.in-None.ensures.cases)
 
 pub returns-in-Some-flush_fault-clause-empties : goal.returns-in-Some-flush_fault-clause-empties
@@ -30,7 +31,7 @@ returns-in-Some-flush_fault-clause-empties g t c =
     let u = c.in-Some.unit.now in
     let old = g.F.Files.state c.args.files.now in
     let mid = g.F.Files.state first.new.files in
-    let calls : Calls c.args.stamp u (filed_of c.args.attached.now old.files) (filed_of first.new.attached mid.files) first.result c.args.notes.now.items first.new.notes.items old mid = record {
+    let calls : Calls (InStep c.args.attached.now old.files) c.args.stamp u (filed_of c.args.attached.now old.files) (filed_of first.new.attached mid.files) first.result c.args.notes.now.items first.new.notes.items old mid = record {
       said = first.ensures.said;
       attached = first.ensures.attached;
       disk = first.ensures.disk;
@@ -40,7 +41,7 @@ returns-in-Some-flush_fault-clause-empties g t c =
       counted = first.ensures.counted;
       all = first.ensures.all;
     } in
-    empties-kept c.args.stamp u c.in-Some.others.now c.args.units.now _ _ first.result c.in-Some-flush_fault.fault c.args.notes.now.items first.new.notes.items old mid
+    empties-kept (InStep c.args.attached.now old.files) c.args.stamp u c.in-Some.others.now c.args.units.now _ _ first.result c.in-Some-flush_fault.fault c.args.notes.now.items first.new.notes.items old mid
     are (sym c.in-Some-flush_fault.ensures) calls
 
 pub returns-in-Some-flush_fault-clause-cause : goal.returns-in-Some-flush_fault-clause-cause
@@ -63,7 +64,7 @@ returns-in-None-flush_fault-clause-empties g t c =
     let u = c.in-Some.unit.now in
     let old = g.F.Files.state c.args.files.now in
     let mid = g.F.Files.state first.new.files in
-    let calls : Calls c.args.stamp u (filed_of c.args.attached.now old.files) (filed_of first.new.attached mid.files) first.result c.args.notes.now.items first.new.notes.items old mid = record {
+    let calls : Calls (InStep c.args.attached.now old.files) c.args.stamp u (filed_of c.args.attached.now old.files) (filed_of first.new.attached mid.files) first.result c.args.notes.now.items first.new.notes.items old mid = record {
       said = first.ensures.said;
       attached = first.ensures.attached;
       disk = first.ensures.disk;
@@ -74,8 +75,8 @@ returns-in-None-flush_fault-clause-empties g t c =
       all = first.ensures.all;
     } in
     let new = g.F.Files.state c.detach_each.new.files in
-    empties-more c.args.stamp u c.in-Some.others.now c.args.units.now _ (filed_of first.new.attached mid.files) _ first.result _ c.args.notes.now.items first.new.notes.items c.detach_each.new.notes.items
-    old mid new are (apart-head u c.in-Some.others.now c.args.units.now are c.requires.apart) (sym c.in-None-flush_fault.ensures) calls c.detach_each.ensures.empties
+    empties-more (InStep c.args.attached.now old.files) (InStep first.new.attached mid.files) c.args.stamp u c.in-Some.others.now c.args.units.now _ (filed_of first.new.attached mid.files) _ first.result _ c.args.notes.now.items first.new.notes.items c.detach_each.new.notes.items
+    old mid new are (apart-head u c.in-Some.others.now c.args.units.now are c.requires.apart) (sym c.in-None-flush_fault.ensures) first.ensures.step calls c.detach_each.ensures.empties
 
 pub returns-in-None-flush_fault-clause-whose : goal.returns-in-None-flush_fault-clause-whose
 returns-in-None-flush_fault-clause-whose g t c =

@@ -47,7 +47,7 @@ returns-clause-undone g c = λ text is.
           (c.note_reading.ensures.notes ∙ ap (λ (t : Stamp). s.notes.items ++ read_notes subject.Script t c.read_file-whole.result) stamped);
       written = refl;
       lines = refl;
-      live = λ told lines whole. ap (λ (l : List NamedBytes). seen (beside s.watch s.keys l lines) whole s.machine) (read.files told);
+      live = λ told steps lines whole. ap (λ (l : List NamedBytes). seen (beside s.watch s.keys l lines) whole s.machine) (read.files told);
     })
 
 pub returns-clause-own : goal.returns-clause-own

@@ -51,7 +51,7 @@ returns-clause-undone g c = λ text is.
       notes = kept;
       written = refl;
       lines = refl;
-      live = λ _ lines whole. ap (λ (l : List NamedBytes). seen (beside s.watch s.keys l lines) whole s.machine) (write.unmade none.1);
+      live = λ _ steps lines whole. ap (λ (l : List NamedBytes). seen (beside s.watch s.keys l lines) whole s.machine) (write.unmade none.1);
     })
 
 pub returns-clause-own : goal.returns-clause-own

@@ -3,6 +3,7 @@ use Rattle.file_commands.specs.Notes.{notes_said}
 use Rattle.file_commands.specs.declared.note.Subject.TheVariants as subject
 use Rattle.host_lines.specs.Told.{Heard}
 use Rattle.scp_parser.specs.Command.{request_of, Request, Attach, AttachPort, Detach, Disconnect, Exit, Do, Load, Dump, file_name_of}
+use Rattle.nova_machine.specs.Machine.{attached_files}
 use Rattle.nova_machine.specs.Comes.{output}
 use Rattle.command_session.specs.Live.{CommandState, live_in, beyond}
 use Rattle.command_session.specs.Nature.{nature}
@@ -18,15 +19,17 @@ use Rattle.command_session.proofs.KeptLemmas.{lines-kept, keeps-none, port-no-fi
 use Rattle.command_session.proofs.ListenLemmas.{IsNoListener, unlistening, unlistened, own-no-port, plain-no-port}
 use Rattle.command_session.proofs.PortAnswerLemmas.{stays}
 use Rattle.command_session.proofs.RemainLemmas.{undone-as, undone-none}
+use Rattle.command_session.proofs.StepLemmas.{stays-alone}
 use Rattle.host_commands.specs.DoEffects.{do_reply}
 use Rattle.host_commands.specs.HostEffect.{host_effect, HostWorks, HostLines}
 use Rattle.host_commands.proofs.HostAnswers.{do-tables, load-tables}
 use Rattle.host_commands.proofs.HostLemmas.{plain-did, noted-did, kept-as}
+use Rattle.host_commands.proofs.StepLemmas.{held-step}
 use Rattle.host_commands.proofs.NamedLemmas.{do-named, load-named, dump-named}
 use Rattle.host_commands.proofs.hosted.obey_host.Goals as goal
 
 pub returns-in-Attach-clause-told : goal.returns-in-Attach-clause-told
-returns-in-Attach-clause-told g c = λ told whole first tells printed.
+returns-in-Attach-clause-told g c = λ told step whole first tells printed.
     let s = c.args.session.now in
     let ports = g.L.Lines.state c.args.lines.now in
     let new = c.attach.new.session in
@@ -51,7 +54,7 @@ returns-in-Attach-clause-undone g c = λ is text.
     (g.F.Files.state c.args.files.now) (g.F.Files.state c.attach.new.files) (ap (λ (r : Request). (nature r).reads_whole) asks) (λ _. refl) (c.attach.ensures.undone text is)
 
 pub returns-in-Do-clause-told : goal.returns-in-Do-clause-told
-returns-in-Do-clause-told g c = λ told whole first tells printed.
+returns-in-Do-clause-told g c = λ told step whole first tells printed.
     let s = c.args.session.now in
     let ports = g.L.Lines.state c.args.lines.now in
     let new = c.do_script.new.session in
@@ -83,7 +86,7 @@ returns-in-Do-clause-measured g c =
     subst (λ (r : Request). IsMeasured g.F.Files.tells r c.do_script.result (g.F.Files.state c.args.files.now) (g.F.Files.state c.do_script.new.files)) (sym is) c.do_script.ensures.whole
 
 pub returns-in-Load-clause-told : goal.returns-in-Load-clause-told
-returns-in-Load-clause-told g c = λ told whole first tells printed.
+returns-in-Load-clause-told g c = λ told step whole first tells printed.
     let s = c.args.session.now in
     let ports = g.L.Lines.state c.args.lines.now in
     let new = c.load_file.new.session in
@@ -113,7 +116,7 @@ returns-in-Load-clause-measured g c =
     subst (λ (r : Request). IsMeasured g.F.Files.tells r c.load_file.result (g.F.Files.state c.args.files.now) (g.F.Files.state c.load_file.new.files)) (sym is) c.load_file.ensures.whole
 
 pub returns-in-Dump-clause-told : goal.returns-in-Dump-clause-told
-returns-in-Dump-clause-told g c = λ told whole first tells printed.
+returns-in-Dump-clause-told g c = λ told step whole first tells printed.
     let s = c.args.session.now in
     let ports = g.L.Lines.state c.args.lines.now in
     let new = c.dump_file.new.session in
@@ -137,7 +140,7 @@ returns-in-Dump-clause-undone g c = λ is text.
     (g.F.Files.state c.args.files.now) (g.F.Files.state c.dump_file.new.files) (ap (λ (r : Request). (nature r).reads_whole) asks) (λ _. refl) (c.dump_file.ensures.undone text is)
 
 pub returns-in-AttachPort-clause-told : goal.returns-in-AttachPort-clause-told
-returns-in-AttachPort-clause-told g c = λ told whole first tells printed.
+returns-in-AttachPort-clause-told g c = λ told step whole first tells printed.
     let s = c.args.session.now in
     let state = g.F.Files.state c.args.files.now in
     let ports = g.L.Lines.state c.args.lines.now in
@@ -189,7 +192,7 @@ returns-in-AttachPort-clause-unrefused g c =
     λ want. subst (λ (r : Request). IsUnrefused r c.args.session.now.machine c.args.session.now.watch) (sym is) (c.attach_port.ensures.unrefused want)
 
 pub returns-in-Disconnect-clause-told : goal.returns-in-Disconnect-clause-told
-returns-in-Disconnect-clause-told g c = λ told whole first tells printed.
+returns-in-Disconnect-clause-told g c = λ told step whole first tells printed.
     let s = c.args.session.now in
     let state = g.F.Files.state c.args.files.now in
     let ports = g.L.Lines.state c.args.lines.now in
@@ -220,7 +223,7 @@ pub returns-in-Disconnect-clause-unasked : goal.returns-in-Disconnect-clause-una
 returns-in-Disconnect-clause-unasked g c = λ refused never. c.disconnect.ensures.unasked refused
 
 pub returns-in-Detach-clause-told : goal.returns-in-Detach-clause-told
-returns-in-Detach-clause-told g c = λ told whole first tells printed.
+returns-in-Detach-clause-told g c = λ told step whole first tells printed.
     let s = c.args.session.now in
     let ports = g.L.Lines.state c.args.lines.now in
     let ports' = g.L.Lines.state c.detach_one_or_every.new.lines in
@@ -234,7 +237,7 @@ returns-in-Detach-clause-told g c = λ told whole first tells printed.
     text (output printed h) (notes_said s.notes) (notes_said new.notes)) (sym c.detach_one_or_every.ensures.sent)
     (noted-did s.command live (live_in new (beyond files' ports' whole)) c.args.command.now (Detach c.in-Detach.unit)
     (λ own. detach_one_or_all own live c.in-Detach.unit) c.detach_one_or_every.result tells text text (notes_said s.notes) (notes_said new.notes)
-    is (λ own. refl) (c.detach_one_or_every.ensures.told both whole tells text))
+    is (λ own. refl) (c.detach_one_or_every.ensures.told both step whole tells text))
 
 pub returns-in-Detach-clause-lines : goal.returns-in-Detach-clause-lines
 returns-in-Detach-clause-lines g c = c.detach_one_or_every.ensures.left
@@ -243,7 +246,7 @@ pub returns-in-Detach-clause-unasked : goal.returns-in-Detach-clause-unasked
 returns-in-Detach-clause-unasked g c = λ refused never. c.detach_one_or_every.ensures.unasked refused
 
 pub returns-in-Exit-clause-told : goal.returns-in-Exit-clause-told
-returns-in-Exit-clause-told g c = λ told whole first tells printed.
+returns-in-Exit-clause-told g c = λ told step whole first tells printed.
     let s = c.args.session.now in
     let ports = g.L.Lines.state c.args.lines.now in
     let ports' = g.L.Lines.state c.exit.new.lines in
@@ -257,7 +260,7 @@ returns-in-Exit-clause-told g c = λ told whole first tells printed.
     text (output printed h) (notes_said s.notes) (notes_said new.notes)) (sym c.exit.ensures.sent)
     (noted-did s.command live (live_in new (beyond files' ports' whole)) c.args.command.now (Exit c.in-Exit.status)
     (λ own. exit_reply own live c.in-Exit.status) c.exit.result tells text text (notes_said s.notes) (notes_said new.notes)
-    is (λ own. refl) (c.exit.ensures.told both whole tells text))
+    is (λ own. refl) (c.exit.ensures.told both step whole tells text))
 
 pub returns-in-Exit-clause-lines : goal.returns-in-Exit-clause-lines
 returns-in-Exit-clause-lines g c = c.exit.ensures.left
@@ -469,3 +472,37 @@ returns-in-Exit-clause-keeps g c =
     let asks = sym c.command.view_is ∙ ap (request_of _) c.in-Exit.is in
     kept-as OpensNone c.args.command.now c.args.session.now.command c.exit.new.session.machine.time g.F.Files.tells c.exit.result c.args.session.now.notes c.exit.new.session.notes
     (g.F.Files.state c.args.files.now) (g.F.Files.state c.exit.new.files) (ap opens_of asks) c.exit.ensures.keeps
+
+pub returns-in-AttachPort-clause-step : goal.returns-in-AttachPort-clause-step
+returns-in-AttachPort-clause-step g c = λ told.
+    held-step c.args.session.now c.attach_port.new.session (g.F.Files.state c.args.files.now).files (g.F.Files.state c.args.files.now).files c.attach_port.ensures.attached
+
+pub returns-in-Disconnect-clause-step : goal.returns-in-Disconnect-clause-step
+returns-in-Disconnect-clause-step g c = λ told.
+    held-step c.args.session.now c.disconnect.new.session (g.F.Files.state c.args.files.now).files (g.F.Files.state c.args.files.now).files c.disconnect.ensures.attached
+
+pub returns-in-Do-clause-step : goal.returns-in-Do-clause-step
+returns-in-Do-clause-step g c = λ told.
+    held-step c.args.session.now c.do_script.new.session (g.F.Files.state c.args.files.now).files (g.F.Files.state c.do_script.new.files).files (ap attached_files c.do_script.ensures.machine)
+
+pub returns-in-Load-clause-step : goal.returns-in-Load-clause-step
+returns-in-Load-clause-step g c = λ told.
+    held-step c.args.session.now c.load_file.new.session (g.F.Files.state c.args.files.now).files (g.F.Files.state c.load_file.new.files).files c.load_file.ensures.attached
+
+pub returns-in-Dump-clause-step : goal.returns-in-Dump-clause-step
+returns-in-Dump-clause-step g c = λ told.
+    held-step c.args.session.now c.dump_file.new.session (g.F.Files.state c.args.files.now).files (g.F.Files.state c.dump_file.new.files).files (ap attached_files c.dump_file.ensures.machine)
+
+pub returns-in-Attach-clause-step : goal.returns-in-Attach-clause-step
+returns-in-Attach-clause-step g c = λ told.
+    let s = c.args.session.now in
+    let is : c.args.command.now ≡ Attach c.in-Attach.option c.in-Attach.unit _ = sym c.command.view_is ∙ ap (request_of _) c.in-Attach.is in
+    c.attach.ensures.step (subst (λ (r : Request). IsTold g.F.Files.tells s.machine.slots g.L.Lines.tells (g.L.Lines.state c.args.lines.now) s.machine.lines r) is told)
+
+pub returns-in-Detach-clause-step : goal.returns-in-Detach-clause-step
+returns-in-Detach-clause-step g c = λ told.
+    stays-alone c.args.session.now c.detach_one_or_every.new.session (g.F.Files.state c.args.files.now).files (g.F.Files.state c.detach_one_or_every.new.files).files c.detach_one_or_every.ensures.step
+
+pub returns-in-Exit-clause-step : goal.returns-in-Exit-clause-step
+returns-in-Exit-clause-step g c = λ told.
+    stays-alone c.args.session.now c.exit.new.session (g.F.Files.state c.args.files.now).files (g.F.Files.state c.exit.new.files).files c.exit.ensures.step

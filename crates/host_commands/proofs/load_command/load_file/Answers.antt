@@ -3,14 +3,14 @@ use Rattle.file_traits.specs.State.{Opened}
 use Rattle.unit_files.specs.Open.{AllOpen, Around}
 use Rattle.file_commands.specs.declared.note.Subject.TheVariants as subject
 use Rattle.file_commands.specs.declared.stamp.Stamp.{Stamp}
-use Rattle.nova_machine.specs.Machine.{MachineState}
+use Rattle.nova_machine.specs.Machine.{MachineState, attached_files}
 use Rattle.nova_machine.specs.Seen.{seen, beside}
 use Rattle.command_session.specs.Live.{CommandState}
 use Rattle.command_session.specs.WholeCalls.{read_notes}
 use Rattle.command_session.specs.Doing.{KeepsOwn}
 use Rattle.command_session.proofs.BehindLemmas.{stamp_in}
 use Rattle.command_session.proofs.WholeLemmas.{read-claims, read-keeps, short-read, read-own, unread-cause}
-use Rattle.host_commands.proofs.TapeLemmas.{tape_comes, tape-plain, tape-own, tape-cause, tape-closings, read-slots, read-lines, read-time, read-none, load-did}
+use Rattle.host_commands.proofs.TapeLemmas.{tape_comes, tape-plain, tape-own, tape-cause, tape-closings, read-slots, read-attached, read-lines, read-time, read-none, load-did}
 use Rattle.command_session.proofs.OwnFileLemmas.{whole-own}
 use Rattle.unit_list.specs.Bus.{kinds_of}
 use Rattle.host_commands.proofs.FileKinds.{read-kinds}
@@ -63,7 +63,7 @@ returns-clause-undone g c = λ text is.
           (c.note_reading.ensures.notes ∙ ap (λ (t : Stamp). s.notes.items ++ read_notes subject.Load t whole) stamped);
       written = refl;
       lines = ap (λ (m : MachineState). m.lines) same;
-      live = λ told lines whole. (λ i. seen (beside s.watch s.keys (read.files told i) lines) whole (same i));
+      live = λ told steps lines whole. (λ i. seen (beside s.watch s.keys (read.files told i) lines) whole (same i));
     })
 
 pub returns-clause-own : goal.returns-clause-own
@@ -131,3 +131,7 @@ returns-clause-works g c =
     rw (← c.session.view_is)
     (load-works c.read_file-whole.result.bytes c.load_bytes.result c.session.inside.machine c.load_bytes.new.machine (g.F.Files.state c.args.files.now) (g.F.Files.state c.read_file-whole.new.files)
     c.load_bytes.ensures.answer c.load_bytes.ensures.machine c.read_file-whole.ensures.taken)
+
+pub returns-clause-attached : goal.returns-clause-attached
+returns-clause-attached g c =
+    rw (← c.session.view_is) (ap attached_files c.load_bytes.ensures.machine ∙ read-attached c.read_file-whole.result.bytes c.session.inside.machine)

@@ -2,11 +2,12 @@ use Rattle.std.proofs.Common.{Ok, Err, ◌≡◌, ℕ, refl, ap, sym, ◌∙◌,
 use Rattle.unit_files.specs.Attachments.{attachments_of}
 use Rattle.file_commands.specs.Notes.{notes_said}
 use Rattle.unit_files.specs.Buffer.{AttachedFiles}
-use Rattle.nova_machine.specs.Machine.{MachineState, with_attached_files}
+use Rattle.nova_machine.specs.Machine.{MachineState, attached_files, with_attached_files}
 use Rattle.nova_machine.specs.Seen.{seen, beside}
 use Rattle.command_session.specs.declared.next.Next.TheVariants.{Go}
 use Rattle.unit_files.specs.declared.modes.AttachMode.{AttachMode}
 use Rattle.unit_files.specs.Causes.{CountsAttach}
+use Rattle.command_session.specs.Live.{CommandState}
 use Rattle.command_session.specs.FileEffects.{mode_of}
 use Rattle.command_session.specs.Doing.{OpensForUnit, KeepsAs}
 use Rattle.command_session.proofs.SeenLemmas.{attached-erased}
@@ -16,6 +17,7 @@ use Rattle.unit_list.specs.Bus.{kinds_of}
 use Rattle.host_commands.proofs.FileKinds.{positioned-kinds}
 use Rattle.host_commands.proofs.AttachTables.{lacking-by-tables, attach-tables, opened-by-cause}
 use Rattle.host_commands.proofs.FileWorkLemmas.{attached-works}
+use Rattle.host_commands.proofs.StepLemmas.{attached-step, held-step}
 use Rattle.host_commands.proofs.unit_commands.attach.Goals as goal
 
 pub returns-then-lacks_unit-clause-told : goal.returns-then-lacks_unit-clause-told
@@ -144,3 +146,24 @@ pub returns-in-Err-clause-works : goal.returns-in-Err-clause-works
 returns-in-Err-clause-works g c =
     let s = c.session.inside in
     rw (← c.session.view_is) (ap (with_attached_files s.machine) (c.in-Err.ensures.refused ∙ c.attached_mut.ensures.value))
+
+pub returns-then-lacks_unit-clause-step : goal.returns-then-lacks_unit-clause-step
+returns-then-lacks_unit-clause-step g c = rw (← c.session.view_is) (λ told step lines lines' whole whole' alone. step)
+
+pub returns-in-Ok-clause-step : goal.returns-in-Ok-clause-step
+returns-in-Ok-clause-step g c = λ told.
+    let s = c.session.inside in
+    let done = c.in-Ok.ensures in
+    let new : CommandState = record { machine = c.set_position.new.machine; watch = s.watch; keys = s.keys; limit = s.limit; notes = c.attach_unit.new.notes.items; command = s.command; spare = 0 } in
+    attached-step c.mode_of-mode.result c.args.unit c.args.name.now c.in-Ok.count c.args.session.now new c.attach_unit.new.attached c.attached_mut.result.now
+    (g.F.Files.state c.args.files.now).files (g.F.Files.state c.attach_unit.new.files).files
+    (c.attached_mut.ensures.value ∙ ap (λ (x : CommandState). attached_files x.machine) c.session.view_is) (ap attached_files c.set_position.ensures) done.attached
+    (done.step told) done.other done.other_marks
+
+pub returns-in-Err-clause-step : goal.returns-in-Err-clause-step
+returns-in-Err-clause-step g c = λ told.
+    let s = c.session.inside in
+    let left = with_attached_files s.machine c.attach_unit.new.attached in
+    let new : CommandState = record { machine = left; watch = s.watch; keys = s.keys; limit = s.limit; notes = c.attach_unit.new.notes.items; command = s.command; spare = 0 } in
+    held-step c.args.session.now new (g.F.Files.state c.args.files.now).files (g.F.Files.state c.attach_unit.new.files).files
+    (c.in-Err.ensures.refused ∙ c.attached_mut.ensures.value ∙ ap (λ (x : CommandState). attached_files x.machine) c.session.view_is)

@@ -1,4 +1,4 @@
-use Rattle.std.proofs.Common.{◌≡◌, ◌∙◌, ap, sym, subst, List, Bool, true, false, Option, if◌then◌else◌}
+use Rattle.std.proofs.Common.{◌≡◌, ◌∙◌, refl, ap, sym, subst, List, Bool, true, false, Option, if◌then◌else◌}
 use Rattle.std.proofs.lemmas.Option.{same_Some}
 use Rattle.unit_trait.specs.declared.kind.UnitName.{UnitName}
 use Rattle.file_commands.specs.Notes.{CommandNote, notes_said}
@@ -12,10 +12,11 @@ use Rattle.command_session.proofs.DidLemmas.{did-as, did-of}
 use Rattle.command_session.proofs.KeptLemmas.{lines-kept, keeps-none, port-no-file}
 use Rattle.command_session.specs.PortAnswers.{DetachesUnit, detaches_by}
 use Rattle.command_session.proofs.PortAnswerLemmas.{stays}
+use Rattle.command_session.proofs.StepLemmas.{step-unchanged}
 use Rattle.host_commands.proofs.unit_commands.detach_one_or_every.Goals as goal
 
 pub returns-in-None-clause-told : goal.returns-in-None-clause-told
-returns-in-None-clause-told g c = λ told whole tells text.
+returns-in-None-clause-told g c = λ told step whole tells text.
     let s = c.args.session.now in
     let new = c.detach_every.new.session in
     let old = g.L.Lines.state c.args.lines.now in
@@ -23,10 +24,10 @@ returns-in-None-clause-told g c = λ told whole tells text.
     let lined = subst (λ (u : Option UnitName). IsTold g.F.Files.tells s.machine.slots g.L.Lines.tells old s.machine.lines (Detach u)) c.in-None.is told in
     did-as (λ own. detach_one_or_all own live c.args.unit) (λ own. detach_all_reply own live) s.command c.detach_every.result
     (live_in new (beyond (g.F.Files.state c.detach_every.new.files).files (g.L.Lines.state c.detach_every.new.lines) whole)) tells text text (notes_said s.notes) (notes_said new.notes)
-    (λ own. ap (λ u. detach_one_or_all own live u) c.in-None.is) (c.detach_every.ensures.told lined whole tells text)
+    (λ own. ap (λ u. detach_one_or_all own live u) c.in-None.is) (c.detach_every.ensures.told lined step whole tells text)
 
 pub returns-in-Some-clause-told : goal.returns-in-Some-clause-told
-returns-in-Some-clause-told g c = λ told whole tells text.
+returns-in-Some-clause-told g c = λ told step whole tells text.
     let s = c.args.session.now in
     let new = c.detach_port.new.session in
     let old = g.L.Lines.state c.args.lines.now in
@@ -47,7 +48,7 @@ returns-in-Some-clause-keeps g c =
     (ap (λ (x : CommandState). x.notes) c.detach_port.ensures.rest) (port-no-file c.detach_port.result c.detach_port.ensures.port)
 
 pub returns-in-Some-2-clause-told : goal.returns-in-Some-2-clause-told
-returns-in-Some-2-clause-told g c = λ told whole tells text.
+returns-in-Some-2-clause-told g c = λ told step whole tells text.
     let s = c.args.session.now in
     let new = c.detach.new.session in
     let old = g.L.Lines.state c.args.lines.now in
@@ -57,7 +58,7 @@ returns-in-Some-2-clause-told g c = λ told whole tells text.
     let other : is_terminal unit ≡ false = ap is_terminal (sym same) ∙ sym c.is_terminal.ensures ∙ c.if-is_terminal.false in
     did-as (λ own. detach_one_or_all own live c.args.unit) (λ own. detach_reply own live unit) s.command c.detach.result
     (live_in new (beyond (g.F.Files.state c.detach.new.files).files old whole)) tells text text (notes_said s.notes) (notes_said new.notes)
-    (λ own. ap (λ u. detach_one_or_all own live u) c.in-Some-2.is ∙ ap (λ (b : Bool). if b then detach_port_reply live else detach_reply own live unit) other) (c.detach.ensures.told old whole tells text)
+    (λ own. ap (λ u. detach_one_or_all own live u) c.in-Some-2.is ∙ ap (λ (b : Bool). if b then detach_port_reply live else detach_reply own live unit) other) (c.detach.ensures.told step old whole tells text)
 
 pub returns-in-Some-2-clause-left : goal.returns-in-Some-2-clause-left
 returns-in-Some-2-clause-left g c =
@@ -87,3 +88,8 @@ returns-in-Some-2-clause-line g c =
     let other : is_terminal c.in-Some-2.unit ≡ false = ap is_terminal (sym same) ∙ sym c.is_terminal.ensures ∙ c.if-is_terminal.false in
     subst (λ (u : Option UnitName). DetachesUnit u c.detach.result old lines old lines') (sym c.in-Some-2.is)
     (subst (λ (b : Bool). detaches_by b c.detach.result old lines old lines') (sym other) (stays old lines lines' c.detach.ensures.terminals))
+
+pub returns-in-Some-clause-step : goal.returns-in-Some-clause-step
+returns-in-Some-clause-step g c =
+    let files = (g.F.Files.state c.args.files.now).files in
+    step-unchanged c.args.session.now c.detach_port.new.session files files c.detach_port.ensures.attached refl

@@ -32,14 +32,14 @@ returns-clause-after g c =
     let done : Deposits m l (handed c.args.value) r new = subst (λ (v : ℕ). Deposits m l v r new) c.handed.ensures deposits in
     rw (← c.session.view_is) (λ files. (deposit-silent m new c.session.inside.watch c.session.inside.keys files l c.args.value r there done).after_is)
 
-pub returns-clause-slots : goal.returns-clause-slots
-returns-clause-slots g c =
+pub returns-clause-attached : goal.returns-clause-attached
+returns-clause-attached g c =
     let m = c.session.inside.machine in
     let new = c.deposit.new.machine in
     let l = c.args.listing.now in
     let r = c.deposit.result in
     let deposits : Deposits m l c.handed.result r new = deposits-of m new l c.handed.result r c.deposit.ensures.done c.deposit.ensures.refused in
-    rw (← c.session.view_is) (deposit-frame m new l c.handed.result r deposits).slots
+    rw (← c.session.view_is) (deposit-frame m new l c.handed.result r deposits).attached
 
 pub returns-clause-time : goal.returns-clause-time
 returns-clause-time g c =

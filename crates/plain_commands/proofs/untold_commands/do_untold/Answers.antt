@@ -2,7 +2,7 @@ use Rattle.std.proofs.Common.{refl, ap, sym, true, ◌∙◌, subst, Ok, ◌≡�
 use Rattle.unit_list.specs.Bus.{kinds_of}
 use Rattle.scp_parser.specs.Command.{Request, Examine, Deposit, request_of, Nothing, Reset, SetSize, Show, Assert, Echo, given_text, Break, NoBreak, Expect, NoExpect, Send, NoSend}
 use Rattle.nova_machine.specs.Comes.{output}
-use Rattle.nova_machine.specs.Machine.{reset_machine}
+use Rattle.nova_machine.specs.Machine.{attached_files, reset_machine}
 use Rattle.command_session.specs.declared.next.Next.TheVariants.{Go}
 use Rattle.command_session.specs.declared.next.Next.TheVariants as next
 use Rattle.command_session.specs.Live.{CommandState, live_in, standing}
@@ -10,7 +10,7 @@ use Rattle.command_session.specs.Nature.{nature}
 use Rattle.command_session.specs.Refusals.{IsUnrefused}
 use Rattle.command_session.proofs.ResetKeeps.{reset-lines}
 use Rattle.command_session.proofs.KindLemmas.{where-kinds}
-use Rattle.plain_commands.proofs.UntoldLemmas.{does-by, goes-does, goto-does, reset-slots, break-given, expect-given, send-given, machine-rest, watch-rest}
+use Rattle.plain_commands.proofs.UntoldLemmas.{does-by, goes-does, goto-does, reset-attached, break-given, expect-given, send-given, machine-rest, watch-rest}
 use Rattle.plain_commands.proofs.untold_commands.do_untold.Goals as goal
 
 pub returns-in-Examine-clause-told : goal.returns-in-Examine-clause-told
@@ -142,8 +142,8 @@ returns-in-SetSize-clause-rest g c = machine-rest c.args.session.now c.set_size.
 pub returns-in-Reset-clause-rest : goal.returns-in-Reset-clause-rest
 returns-in-Reset-clause-rest g c = machine-rest c.args.session.now c.reset.new.session (reset_machine c.args.session.now.machine) c.reset.ensures.rest
 
-pub returns-in-Reset-clause-slots : goal.returns-in-Reset-clause-slots
-returns-in-Reset-clause-slots g c = ap (λ (x : CommandState). x.machine.slots) c.reset.ensures.rest ∙ reset-slots c.args.session.now.machine
+pub returns-in-Reset-clause-attached : goal.returns-in-Reset-clause-attached
+returns-in-Reset-clause-attached g c = ap (λ (x : CommandState). attached_files x.machine) c.reset.ensures.rest ∙ reset-attached c.args.session.now.machine
 
 pub returns-in-Reset-clause-terminals : goal.returns-in-Reset-clause-terminals
 returns-in-Reset-clause-terminals g c = ap (λ (x : CommandState). x.machine.lines) c.reset.ensures.rest ∙ reset-lines true c.args.session.now.machine
@@ -195,3 +195,21 @@ returns-in-Expect-clause-wanted g c = λ wants.
       written = refl;
       unrefused = subst (λ (r : Request). IsUnrefused r s.machine s.watch) (sym is) (c.add_expect.ensures.unrefused wants);
     }
+
+pub returns-in-Break-clause-attached : goal.returns-in-Break-clause-attached
+returns-in-Break-clause-attached g c = ap (λ (x : CommandState). attached_files x.machine) c.add_break.ensures.rest
+
+pub returns-in-NoBreak-clause-attached : goal.returns-in-NoBreak-clause-attached
+returns-in-NoBreak-clause-attached g c = ap (λ (x : CommandState). attached_files x.machine) c.remove_breaks.ensures.rest
+
+pub returns-in-Expect-clause-attached : goal.returns-in-Expect-clause-attached
+returns-in-Expect-clause-attached g c = ap (λ (x : CommandState). attached_files x.machine) c.add_expect.ensures.rest
+
+pub returns-in-NoExpect-clause-attached : goal.returns-in-NoExpect-clause-attached
+returns-in-NoExpect-clause-attached g c = ap (λ (x : CommandState). attached_files x.machine) c.remove_expects.ensures.rest
+
+pub returns-in-Send-clause-attached : goal.returns-in-Send-clause-attached
+returns-in-Send-clause-attached g c = ap (λ (x : CommandState). attached_files x.machine) c.send.ensures.rest
+
+pub returns-in-NoSend-clause-attached : goal.returns-in-NoSend-clause-attached
+returns-in-NoSend-clause-attached g c = ap (λ (x : CommandState). attached_files x.machine) c.remove_sends.ensures.rest

@@ -1,4 +1,5 @@
 use Rattle.std.proofs.Common.{ℕ, Bool, refl, ap, sym, subst, List}
+use Rattle.unit_files.specs.Buffer.{AttachedFiles}
 use Rattle.file_commands.specs.Notes.{notes_said}
 use Rattle.nova_machine.specs.Comes.{output}
 use Rattle.command_session.specs.Live.{CommandState, live_in}
@@ -48,3 +49,6 @@ returns-clause-keeps g c = λ tells state.
     let live = live_in s (alone state.files) in
     keeps-none s.command new.machine.time tells c.do_untold.result s.notes new.notes state (ap (λ (x : CommandState). x.notes) c.do_untold.ensures.rest)
     (does-of-no-file (untold_effect live c.args.command.now) c.do_untold.result _ _ _ _ (c.do_untold.ensures.told (alone state.files) unheard) (untold-no-file live c.args.command.now))
+
+pub returns-clause-slots : goal.returns-clause-slots
+returns-clause-slots g c = ap (λ (a : AttachedFiles). a.slots) c.do_untold.ensures.attached

@@ -1,12 +1,15 @@
 use Rattle.std.proofs.Common.{◌≡◌, ℕ, false, rules, ◌∙◌, List, Option, Err, refl, ap, sym, subst}
 use Rattle.unit_files.specs.Attachments.{Held}
+use Rattle.unit_files.specs.Buffer.{AttachedFiles}
+use Rattle.unit_files.specs.InStep.{MarksCover}
 use Rattle.unit_files.specs.Open.{AllOpen}
+use Rattle.unit_files.proofs.InStep.{covers-same}
 use Rattle.file_commands.specs.declared.note.FaultNote.{FaultNote}
 use Rattle.file_commands.specs.OwnFiles.{AreOwn}
 use Rattle.file_commands.specs.Notes.{notes_said}
 use Rattle.file_commands.proofs.OwnFiles.{unused}
 use Rattle.expect_actions.specs.Watch.{WatchState}
-use Rattle.nova_machine.specs.Machine.{MachineState}
+use Rattle.nova_machine.specs.Machine.{MachineState, attached_files}
 use Rattle.nova_machine.specs.StopCauses.{moment_of}
 use Rattle.nova_machine.specs.Comes.{AreTold, output}
 use Rattle.telnet_lines.specs.Line.{LineOf}
@@ -19,8 +22,9 @@ use Rattle.command_session.specs.Doing.{RunCause}
 use Rattle.command_session.specs.RunEffects.{run_from}
 use Rattle.command_session.specs.RunStops.{RunStops}
 use Rattle.run_control.proofs.RunStopLemmas.{started-moment, started-stops}
+use Rattle.command_session.proofs.GrowLemmas.{grows-same}
 use Rattle.command_session.proofs.ReplyLemmas.{did-without, refused-said}
-use Rattle.run_control.proofs.StartLemmas.{started-slots, started-lines, started-did, run_from-refused}
+use Rattle.run_control.proofs.StartLemmas.{started-slots, started-files, started-lines, started-did, run_from-refused}
 use Rattle.unit_list.specs.Bus.{kinds_of}
 use Rattle.command_session.proofs.KindLemmas.{started-kinds}
 use Rattle.run_control.proofs.run_commands.run_from.Goals as goal
@@ -114,3 +118,15 @@ returns-clause-unasked g c = λ is. absurd (c.run.ensures.never is)
 pub returns-clause-kinds : goal.returns-clause-kinds
 returns-clause-kinds g c =
     c.run.ensures.kinds ∙ ap (λ (s : CommandState). kinds_of s.machine.units) c.start.ensures ∙ started-kinds c.args.resets c.args.address c.args.session.now.machine
+
+pub returns-then-not-address_fits-clause-covers : goal.returns-then-not-address_fits-clause-covers
+returns-then-not-address_fits-clause-covers g c =
+    covers-same (attached_files c.args.session.now.machine) (attached_files c.args.session.now.machine) refl refl
+
+pub returns-clause-covers : goal.returns-clause-covers
+returns-clause-covers g c =
+    let same = ap (λ (s : CommandState). attached_files s.machine) c.start.ensures ∙ started-files c.args.resets c.args.address c.args.session.now.machine in
+    subst (λ (a : AttachedFiles). MarksCover a (attached_files c.run.new.session.machine)) same c.run.ensures.covers
+
+pub returns-then-not-address_fits-clause-grows : goal.returns-then-not-address_fits-clause-grows
+returns-then-not-address_fits-clause-grows g c = grows-same g.S.Sink.tells (g.S.Sink.written c.args.out.now) (g.S.Sink.written c.args.out.now) refl

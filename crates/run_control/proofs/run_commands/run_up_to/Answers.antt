@@ -1,12 +1,14 @@
 use Rattle.std.proofs.Common.{rules, Some, refl, ◌≡◌, ◌∙◌, ℕ, List, ap, sym, subst}
 use Rattle.file_traits.specs.Streams.{Puts}
+use Rattle.unit_files.specs.Buffer.{AttachedFiles}
+use Rattle.unit_files.specs.InStep.{MarksCover}
 use Rattle.file_commands.specs.Notes.{notes_said}
 use Rattle.nova_machine.specs.declared.machine.Stop.{Stop}
 use Rattle.nova_machine.specs.Comes.{output, FileCause as StopCause}
 use Rattle.telnet_lines.specs.Line.{LineOf}
 use Rattle.nova_machine.specs.LineChanges.{LinesGoOn}
 use Rattle.expect_actions.specs.Watch.{WatchState}
-use Rattle.nova_machine.specs.Machine.{MachineState}
+use Rattle.nova_machine.specs.Machine.{MachineState, attached_files}
 use Rattle.nova_machine.specs.StopCauses.{moment_of, Watches, RunCause}
 use Rattle.nova_machine.specs.Run.{run}
 use Rattle.nova_machine.specs.Seen.{seen, beside, erased}
@@ -14,6 +16,7 @@ use Rattle.command_session.specs.Live.{Live, CommandState, live_in, beyond}
 use Rattle.command_session.specs.RunEffects.{run_failure, ran, stop_text}
 use Rattle.command_session.specs.Doing.{Did, Keeps}
 use Rattle.command_session.proofs.OwnFileLemmas.{quiet-own, stop-own}
+use Rattle.command_session.proofs.GrowLemmas.{grows-both, grows-put}
 use Rattle.run_control.proofs.RunLemmas.{cut-did, run-did, erased-text, said-more, run-keeps, cut-keeps}
 use Rattle.run_control.proofs.RunStopLemmas.{run-stops}
 use Rattle.run_control.proofs.run_commands.run_up_to.Goals as goal
@@ -133,3 +136,23 @@ returns-clause-stopped g c =
     (subst (λ (x : MachineState). Watches (Some stop) (moment_of c.session.inside.watch c.session.inside.machine) (moment_of new.watch x) g.S.Sink.tells before mid) (sym machine_is)
     (subst (λ (x : WatchState). Watches (Some stop) (moment_of c.session.inside.watch c.session.inside.machine) (moment_of x m) g.S.Sink.tells before mid) (sym watch_is) c.run-stop.ensures.watches))
     (λ t. subst (λ (x : MachineState). Puts mid (stop_text stop x) c.put_stop-printed.result after) shown (c.put_stop-printed.ensures.told t)))
+
+pub returns-then-is_console_fault-clause-grows : goal.returns-then-is_console_fault-clause-grows
+returns-then-is_console_fault-clause-grows g c = λ told. (c.run-stop.ensures.watches.bytes, c.run-stop.ensures.watches.written told)
+
+pub returns-clause-grows : goal.returns-clause-grows
+returns-clause-grows g c =
+    let before = g.S.Sink.written c.args.out.now in
+    let mid = g.S.Sink.written c.run-stop.new.out in
+    let after = g.S.Sink.written c.put_stop-printed.new.out in
+    grows-both g.S.Sink.tells before mid after (λ told. (c.run-stop.ensures.watches.bytes, c.run-stop.ensures.watches.written told))
+    (grows-put g.S.Sink.tells mid _ c.put_stop-printed.result after c.put_stop-printed.ensures.told)
+
+pub returns-then-is_console_fault-clause-covers : goal.returns-then-is_console_fault-clause-covers
+returns-then-is_console_fault-clause-covers g c = rw (← c.session.view_is) c.run-stop.ensures.covers
+
+pub returns-clause-covers : goal.returns-clause-covers
+returns-clause-covers g c =
+    let same : attached_files c.note_stop.new.session.machine ≡ attached_files c.run-stop.new.self = ap (λ (s : CommandState). attached_files s.machine) c.note_stop.ensures.rest in
+    rw (← c.session.view_is)
+    (subst (λ (a : AttachedFiles). MarksCover (attached_files c.session.inside.machine) a) (sym same) c.run-stop.ensures.covers)

@@ -1,14 +1,17 @@
 use Rattle.std.proofs.Common.{rules, ◌∙◌, List, Err, refl, sym, subst}
+use Rattle.unit_files.proofs.InStep.{covers-same}
 use Rattle.file_commands.specs.Notes.{CommandNote, notes_said}
 use Rattle.host_lines.specs.Traffic.{Answer as LineAnswer}
 use Rattle.file_commands.proofs.OwnFiles.{unused}
 use Rattle.nova_machine.proofs.LineSteps.{lines-stay}
+use Rattle.nova_machine.specs.Machine.{attached_files}
 use Rattle.nova_machine.specs.Comes.{output}
 use Rattle.command_session.specs.declared.fault.CommandFault.TheVariants.{OutOfRange}
 use Rattle.command_session.specs.Live.{live_in, beyond}
 use Rattle.command_session.specs.Reply.{Reply, refused}
 use Rattle.command_session.specs.Doing.{RunDone}
 use Rattle.command_session.specs.RunEffects.{step_of}
+use Rattle.command_session.proofs.GrowLemmas.{grows-same}
 use Rattle.command_session.proofs.ReplyLemmas.{did-without, refused-said}
 use Rattle.run_control.proofs.StartLemmas.{step-refused, step-begun}
 use Rattle.run_control.proofs.run_commands.step.Goals as goal
@@ -46,3 +49,10 @@ returns-then-is_count-clause-done g c =
     subst (λ (reply : List LineAnswer → List CommandNote → Reply). RunDone reply c.step_by.result s new.session old (g.F.Files.state new.files) ports (g.L.Lines.state new.lines)
     g.F.Files.tells g.L.Lines.tells g.S.Sink.tells (g.S.Sink.written c.args.out.now) (g.S.Sink.written new.out) (g.S.Sink.fault_count c.args.out.now) (g.S.Sink.fault_count new.out))
     (λ i whole notes. sym (step-begun s.limit c.args.count (live_in s (beyond old.files ports whole)) fits notes) i) c.step_by.ensures.done
+
+pub returns-else-is_count-clause-covers : goal.returns-else-is_count-clause-covers
+returns-else-is_count-clause-covers g c =
+    covers-same (attached_files c.args.session.now.machine) (attached_files c.args.session.now.machine) refl refl
+
+pub returns-else-is_count-clause-grows : goal.returns-else-is_count-clause-grows
+returns-else-is_count-clause-grows g c = grows-same g.S.Sink.tells (g.S.Sink.written c.args.out.now) (g.S.Sink.written c.args.out.now) refl

@@ -1,4 +1,6 @@
-use Rattle.std.proofs.Common.{ℕ, ap, sym, ◌∙◌, subst, ◌≡◌, nat_le, min}
+use Rattle.std.proofs.Common.{ℕ, List, Option, ap, sym, ◌∙◌, subst, ◌≡◌, nat_le, min}
+use Rattle.unit_files.specs.Attachments.{Attachment, Held, attachments_of, attachment_at}
+use Rattle.unit_files.specs.Buffer.{disk_unit}
 use Rattle.scp_parser.specs.Command.{Request, request_of, Run, Go, Cont, Step}
 use Rattle.command_session.specs.Live.{live_in, beyond}
 use Rattle.command_session.specs.Doing.{RunDone}
@@ -7,7 +9,11 @@ use Rattle.command_session.specs.RunEffects.{count_fits, step_of}
 use Rattle.command_session.specs.RunStops.{RunStops, run_count, is_step}
 use Rattle.command_session.proofs.AskedAnswers.{by-asks, can-by}
 use Rattle.run_control.specs.RunEffect.{run_effect}
+use Rattle.command_session.proofs.StepLemmas.{step-alone}
 use Rattle.run_control.proofs.running.obey_run.Goals as goal
+
+abbrev disk-held : List (Option Held) → Option Attachment
+disk-held slots = attachment_at (attachments_of slots) disk_unit
 
 pub returns-in-Run-clause-done : goal.returns-in-Run-clause-done
 returns-in-Run-clause-done g c =
@@ -98,3 +104,23 @@ returns-in-Step-clause-tables g c = by-asks c.args.session.now.machine c.step.re
 
 pub returns-in-Step-clause-answers : goal.returns-in-Step-clause-answers
 returns-in-Step-clause-answers g c = can-by c.step.result c.args.command.now _ (sym c.command.view_is ∙ ap (request_of _) c.in-Step.is) c.step.ensures.answers
+
+pub returns-in-Run-clause-step : goal.returns-in-Run-clause-step
+returns-in-Run-clause-step g c =
+    step-alone c.args.session.now c.run_from.new.session (g.F.Files.state c.args.files.now).files (g.F.Files.state c.run_from.new.files).files
+    (ap disk-held c.run_from.ensures.done.slots) c.run_from.ensures.covers
+
+pub returns-in-Go-clause-step : goal.returns-in-Go-clause-step
+returns-in-Go-clause-step g c =
+    step-alone c.args.session.now c.run_from-in-Go.new.session (g.F.Files.state c.args.files.now).files (g.F.Files.state c.run_from-in-Go.new.files).files
+    (ap disk-held c.run_from-in-Go.ensures.done.slots) c.run_from-in-Go.ensures.covers
+
+pub returns-in-Cont-clause-step : goal.returns-in-Cont-clause-step
+returns-in-Cont-clause-step g c =
+    step-alone c.args.session.now c.run.new.session (g.F.Files.state c.args.files.now).files (g.F.Files.state c.run.new.files).files
+    (ap disk-held c.run.ensures.done.slots) c.run.ensures.covers
+
+pub returns-in-Step-clause-step : goal.returns-in-Step-clause-step
+returns-in-Step-clause-step g c =
+    step-alone c.args.session.now c.step.new.session (g.F.Files.state c.args.files.now).files (g.F.Files.state c.step.new.files).files
+    (ap disk-held c.step.ensures.done.slots) c.step.ensures.covers

@@ -15,6 +15,7 @@ use Rattle.saved_files.proofs.RestoreCounts.{cause-behind, from-both, new-counts
 use Rattle.saved_files.specs.RestoringOne.{OnlyItsCount}
 use Rattle.saved_files.proofs.ClosingOnce.{closed-behind, closed-since, given-then, same-closed}
 use Rattle.saved_files.proofs.RestoreOpenings.{opens-none, opens-first, opens-all}
+use Rattle.saved_files.proofs.InStep.{unmarked-if}
 use Rattle.saved_files.proofs.restoring.+attach_each.Goals as goal
 
 pub returns-in-None-clause-told : goal.returns-in-None-clause-told
@@ -71,7 +72,7 @@ returns-in-Err-clause-told g t c = λ told.
 pub give_back-requires-clause-clean : goal.give_back-requires-clause-clean
 give_back-requires-clause-clean g t c = λ disk.
     let is = ap (λ (u : UnitName). is_disk u.kind) (sym c.unit_of.ensures) ∙ disk in
-    ap (λ (b : Buffer). b.written) c.in-Err.ensures.disk ∙ (c.in_ok-attach_one-in-Some.ensures.unwritten is).0
+    ap (λ (b : Buffer). b.written) c.in-Err.ensures.disk ∙ c.in_ok-attach_one-in-Some.ensures.unwritten is
 
 pub returns-in-Err-clause-slots : goal.returns-in-Err-clause-slots
 returns-in-Err-clause-slots g t c =
@@ -192,3 +193,14 @@ returns-in-Err-clause-exact g t c =
     (Err c.in-Err.fault) (state c.args.files.now) (state c.attach_one.new.files) (state c.attach_each.new.files)
     (state c.give_back.new.files) all c.in_ok-attach_one-in-Some.ensures.exact c.in-Err.ensures.exact back.openings
     back.ids
+
+pub returns-in-Ok-clause-step : goal.returns-in-Ok-clause-step
+returns-in-Ok-clause-step g t c = λ told step. c.in-Ok.ensures.step told (c.in_ok-attach_one-in-Some.ensures.step told step)
+
+pub returns-in-Ok-clause-unmarked : goal.returns-in-Ok-clause-unmarked
+returns-in-Ok-clause-unmarked g t c = λ none. c.in-Ok.ensures.unmarked (c.in_ok-attach_one-in-Some.ensures.unmarked none)
+
+pub returns-in-Err-clause-unmarked : goal.returns-in-Err-clause-unmarked
+returns-in-Err-clause-unmarked g t c = λ none.
+    unmarked-if (is_disk c.unit_of.result.kind) c.attach_each.new.attached.marks c.give_back.new.attached.marks c.give_back.ensures.marks
+    (c.in-Err.ensures.unmarked (c.in_ok-attach_one-in-Some.ensures.unmarked none))

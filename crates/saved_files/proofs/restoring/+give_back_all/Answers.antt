@@ -1,7 +1,7 @@
 use Rattle.std.proofs.Common.{rules, ap, sym, ◌∙◌, subst}
 use Rattle.std.specs.Prelude.{IsTrue, is_some}
 use Rattle.unit_trait.specs.declared.kind.UnitName.{UnitName}
-use Rattle.unit_files.specs.Attachments.{attachments_of, attachment_at}
+use Rattle.unit_files.specs.Attachments.{attachments_of, attachment_at, is_disk}
 use Rattle.unit_files.specs.Buffer.{Buffer}
 use Rattle.saved_files.specs.GivingBack.{IsHeldIn}
 use Rattle.saved_session.specs.Parts.{file_in}
@@ -12,6 +12,7 @@ use Rattle.saved_files.proofs.RestoreCounts.{no-counts, their-counts}
 use Rattle.saved_files.proofs.Together.{all-of, head-of, tail-of, apart-of}
 use Rattle.std.proofs.Common.{Ok, refl}
 use Rattle.saved_files.proofs.ClosingOnce.{closed-behind, same-closed}
+use Rattle.saved_files.proofs.InStep.{unmarked-if}
 use Rattle.saved_files.proofs.restoring.+give_back_all.Goals as goal
 
 pub give_back_all-requires : goal.give_back_all-requires
@@ -81,3 +82,8 @@ returns-in-Some-clause-once g t c =
     closed-behind (Ok tt) c.give_back_all.new.attached.slots c.give_back.new.attached.slots c.unit_of.result
     (state c.args.files.now) (state c.give_back_all.new.files) (state c.give_back.new.files)
     c.give_back_all.ensures.once c.give_back.ensures.count c.give_back.ensures.kept c.give_back.ensures.once
+
+pub returns-in-Some-clause-unmarked : goal.returns-in-Some-clause-unmarked
+returns-in-Some-clause-unmarked g t c = λ none.
+    unmarked-if (is_disk c.unit_of.result.kind) c.give_back_all.new.attached.marks c.give_back.new.attached.marks
+    c.give_back.ensures.marks (c.give_back_all.ensures.unmarked none)

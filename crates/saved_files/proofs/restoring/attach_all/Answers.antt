@@ -1,8 +1,9 @@
-use Rattle.std.proofs.Common.{◌≡◌, sym, ap, ◌∙◌, List, Option, Result}
+use Rattle.std.proofs.Common.{◌≡◌, sym, ap, ◌∙◌, List, Result}
 use Rattle.std.specs.Prelude.{Ok, Err, OnErr}
 use Rattle.file_traits.specs.State.{Opened}
-use Rattle.unit_files.specs.Attachments.{Held, attachments_of, no_files}
-use Rattle.unit_files.specs.Buffer.{AttachedFiles, Buffer, no_buffer, nothing_attached}
+use Rattle.unit_files.specs.Attachments.{attachments_of, no_files}
+use Rattle.unit_files.specs.Pages.{no_marks}
+use Rattle.unit_files.specs.Buffer.{AttachedFiles, no_buffer, nothing_attached}
 use Rattle.unit_files.specs.Open.{Around}
 use Rattle.saved_files.specs.declared.file_faults.RestoreFault.{RestoreFault}
 use Rattle.saved_session.specs.Order.{place_of}
@@ -10,6 +11,7 @@ use Rattle.saved_files.specs.Restoring.{files_in}
 use Rattle.saved_files.proofs.Together.{all-free, all-clean, nothing-held, only-base, around-nothing}
 use Rattle.saved_files.proofs.ValidFiles.{each-can, all-apart}
 use Rattle.saved_files.proofs.ClosingOnce.{nothing-given}
+use Rattle.saved_files.proofs.InStep.{step-nothing}
 use Rattle.saved_files.proofs.restoring.attach_all.Goals as goal
 
 slots-of : (a : AttachedFiles) → a ≡ nothing_attached → a.slots ≡ no_files
@@ -17,6 +19,9 @@ slots-of a is = ap (λ (x : AttachedFiles). x.slots) is
 
 disk-of : (a : AttachedFiles) → a ≡ nothing_attached → a.disk ≡ no_buffer
 disk-of a is = ap (λ (x : AttachedFiles). x.disk) is
+
+marks-of : (a : AttachedFiles) → a ≡ nothing_attached → a.marks ≡ no_marks
+marks-of a is = ap (λ (x : AttachedFiles). x.marks) is
 
 pub attach_each-requires-clause-can : goal.attach_each-requires-clause-can
 attach_each-requires-clause-can g c = each-can (place_of 0 0) (files_in c.args.saved.now) c.requires.valid.each
@@ -35,13 +40,13 @@ attach_each-requires-clause-clean g c =
 -- a refusal leaves nothing attached, and closes what it opened
 is-refused : (result : Result (Unit {0}) RestoreFault) (old new : AttachedFiles) → old ≡ nothing_attached
     → OnErr result (attachments_of new.slots ≡ attachments_of old.slots) → OnErr result (new.disk ≡ old.disk)
-    → OnErr result (new ≡ old)
-is-refused (Ok u) old new is slots disk = tt
-is-refused (Err f) old new is slots disk =
+    → (old.marks ≡ no_marks → new.marks ≡ no_marks) → OnErr result (new ≡ old)
+is-refused (Ok u) old new is slots disk unmarked = tt
+is-refused (Err f) old new is slots disk unmarked =
     let same : new.slots ≡ old.slots =
     nothing-held new.slots old.slots (slots-of old is) slots ∙ sym (slots-of old is) in
-    ap (λ (l : List (Option Held)). record { slots = l; disk = new.disk }) same
-    ∙ ap (λ (d : Buffer). record { slots = old.slots; disk = d }) disk
+    let marks : new.marks ≡ old.marks = unmarked (marks-of old is) ∙ sym (marks-of old is) in
+    λ i. record { slots = same i; disk = disk i; marks = marks i }
 
 is-closed : (result : Result (Unit {0}) RestoreFault) (old new : AttachedFiles) (before after : List Opened)
     → old ≡ nothing_attached → OnErr result (attachments_of new.slots ≡ attachments_of old.slots)
@@ -53,7 +58,14 @@ is-closed (Err f) old new before after is slots around =
 pub returns-clause-refused : goal.returns-clause-refused
 returns-clause-refused g c =
     is-refused c.attach_each.result c.args.attached.now c.attach_each.new.attached c.requires.nothing
-    c.attach_each.ensures.slots c.attach_each.ensures.disk
+    c.attach_each.ensures.slots c.attach_each.ensures.disk c.attach_each.ensures.unmarked
+
+pub returns-clause-unmarked : goal.returns-clause-unmarked
+returns-clause-unmarked g c = c.attach_each.ensures.unmarked (marks-of c.args.attached.now c.requires.nothing)
+
+pub returns-clause-step : goal.returns-clause-step
+returns-clause-step g c = λ t.
+    c.attach_each.ensures.step t (step-nothing c.args.attached.now (g.F.Files.state c.args.files.now).files c.requires.nothing)
 
 pub returns-clause-around : goal.returns-clause-around
 returns-clause-around g c =

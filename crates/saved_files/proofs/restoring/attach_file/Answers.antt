@@ -1,4 +1,4 @@
-use Rattle.std.proofs.Common.{Some, None, Ok, Err, refl, sym, ap, subst, ◌∙◌, rules}
+use Rattle.std.proofs.Common.{inl, inr, Some, None, Ok, Err, refl, sym, ap, subst, ◌∙◌, rules}
 use Rattle.unit_trait.specs.declared.kind.UnitName.{UnitName}
 use Rattle.unit_files.specs.Attachments.{attachments_of, is_disk}
 use Rattle.unit_files.specs.declared.faults.AttachFault.TheVariants as attach
@@ -13,6 +13,9 @@ use Rattle.saved_files.specs.declared.file_faults.RestoreFault.TheVariants as fa
 use Rattle.saved_files.specs.RestoreCauses.{ClosesOthers}
 use Rattle.saved_files.proofs.ClosingOnce.{same-closed, none-closed, long-closed, failed-closed}
 use Rattle.saved_files.proofs.RestoreOpenings.{opens-one, opens-refused}
+use Rattle.std.proofs.lemmas.Bool.{cases_Bool}
+use Rattle.unit_files.specs.Acts.{is_read_only}
+use Rattle.saved_files.proofs.InStep.{step-other, unmarked-behind}
 use Rattle.saved_files.proofs.restoring.attach_file.Goals as goal
 
 pub returns-in-Ok-clause-bytes : goal.returns-in-Ok-clause-bytes
@@ -74,7 +77,7 @@ returns-in-Err-Failed-clause-told g c = λ t force.
 pub returns-in-Ok-clause-unwritten : goal.returns-in-Ok-clause-unwritten
 returns-in-Ok-clause-unwritten g c = λ disk.
     let is = ap (λ (u : UnitName). is_disk u.kind) c.unit_of-unit.ensures ∙ disk in
-    (c.in-Ok.ensures.unwritten is, c.in-Ok.ensures.unmarked is)
+    c.in-Ok.ensures.unwritten is
 
 pub returns-in-Err-TooLong-clause-cause : goal.returns-in-Err-TooLong-clause-cause
 returns-in-Err-TooLong-clause-cause g c =
@@ -145,3 +148,17 @@ returns-in-Err-OutOfMemory-clause-exact g c =
     let counts = rw c.in-Err-OutOfMemory.field-0-is at c.in-Err-OutOfMemory.ensures.exact in
     opens-refused c.mode_of.result (is_only_read (file_in c.args.file.now)) g.F.Files.tells (Err attach.OutOfMemory)
     (g.F.Files.state c.args.files.now) (g.F.Files.state c.attach.new.files) c.mode_of.ensures counts fault.OutOfMemory refl
+
+pub returns-in-Ok-clause-unmarked : goal.returns-in-Ok-clause-unmarked
+returns-in-Ok-clause-unmarked g c =
+    unmarked-behind c.unit_of-unit.result c.args.attached.now.marks c.attach.new.self.marks c.in-Ok.ensures.unmarked c.in-Ok.ensures.other_marks
+
+pub returns-in-Ok-clause-step : goal.returns-in-Ok-clause-step
+returns-in-Ok-clause-step g c = λ t step. elim (cases_Bool (is_disk c.unit_of-unit.result.kind)) [
+  | inl is ↦ c.in-Ok.ensures.step t is
+  | inr other ↦
+      step-other c.unit_of-unit.result (record { name = c.as_str.result.now; read_only = is_read_only c.mode_of.result })
+      c.args.attached.now c.attach.new.self (g.F.Files.state c.args.files.now).files (g.F.Files.state c.attach.new.files).files
+      other c.in-Ok.ensures.attached (c.in-Ok.ensures.other other) (c.in-Ok.ensures.other_marks other)
+      (returns-in-Ok-clause-files g c t) step
+]

@@ -16,6 +16,7 @@ use Rattle.saved_files.proofs.RestoreCounts.{counts-given-back, cause-compared, 
 use Rattle.saved_files.proofs.ClosingOnce.{closed-behind, closed-since, compared-closed, same-closed}
 use Rattle.saved_files.proofs.RestoreOpenings.{opens-then, opens-compared}
 use Rattle.saved_files.specs.RestoreCauses.{ClosesOthers}
+use Rattle.saved_files.proofs.InStep.{step-same, unmarked-if}
 use Rattle.saved_files.proofs.restoring.attach_one.Goals as goal
 
 pub returns-then-force-clause-told : goal.returns-then-force-clause-told
@@ -63,7 +64,7 @@ returns-in-Err-clause-told g c = λ t.
 pub give_back-requires-clause-clean : goal.give_back-requires-clause-clean
 give_back-requires-clause-clean g c = λ disk.
     let is = ap (λ (u : UnitName). is_disk u.kind) (sym c.unit_of.ensures) ∙ disk in
-    ap (λ (a : AttachedFiles). a.disk.written) c.in-Err.ensures.kept ∙ (c.in_ok-attach_file.ensures.unwritten is).0
+    ap (λ (a : AttachedFiles). a.disk.written) c.in-Err.ensures.kept ∙ c.in_ok-attach_file.ensures.unwritten is
 
 pub returns-in-Err-clause-slots : goal.returns-in-Err-clause-slots
 returns-in-Err-clause-slots g c =
@@ -142,3 +143,18 @@ returns-in-Err-clause-exact g c =
     opens-compared g.F.Files.tells 1 c.in-Err.fault (state c.args.files.now) (state c.attach_file.new.files)
     (state c.give_back.new.files) c.in-Err.ensures.calls c.in_ok-attach_file.ensures.exact
     (back.openings ∙ compared.openings) (back.ids ∙ compared.ids)
+
+pub returns-in-Ok-clause-step : goal.returns-in-Ok-clause-step
+returns-in-Ok-clause-step g c = λ t step.
+    step-same c.attach_file.new.attached c.compare.new.attached (g.F.Files.state c.attach_file.new.files).files
+    (g.F.Files.state c.compare.new.files).files c.in-Ok.ensures.kept c.in-Ok.ensures.files
+    (c.in_ok-attach_file.ensures.step t step)
+
+pub returns-in-Ok-clause-unmarked : goal.returns-in-Ok-clause-unmarked
+returns-in-Ok-clause-unmarked g c = λ none.
+    ap (λ (a : AttachedFiles). a.marks) c.in-Ok.ensures.kept ∙ c.in_ok-attach_file.ensures.unmarked none
+
+pub returns-in-Err-clause-unmarked : goal.returns-in-Err-clause-unmarked
+returns-in-Err-clause-unmarked g c = λ none.
+    unmarked-if (is_disk c.unit_of.result.kind) c.compare.new.attached.marks c.give_back.new.attached.marks c.give_back.ensures.marks
+    (ap (λ (a : AttachedFiles). a.marks) c.in-Err.ensures.kept ∙ c.in_ok-attach_file.ensures.unmarked none)

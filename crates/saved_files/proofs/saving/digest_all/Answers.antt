@@ -11,10 +11,11 @@ use Rattle.std.specs.Prelude.{map}
 use Rattle.saved_files.proofs.SavingLaws.{can-unread, unread-apart, read-unread, none-unsaved, unflushed-first, reading-files}
 use Rattle.saved_files.proofs.SavingLaws.{reading-copy, unread-unsaved, whole-of, length-map}
 use Rattle.saved_files.proofs.SavingLaws.{named-as, as-many-as, few-unread}
+use Rattle.saved_files.proofs.InStep.{step-same}
 use Rattle.saved_files.proofs.saving.digest_all.Goals as goal
 
 pub returns-in-Err-write_back-clause-first : goal.returns-in-Err-write_back-clause-first
-returns-in-Err-write_back-clause-first g c = λ t.
+returns-in-Err-write_back-clause-first g c = λ t step.
     unflushed-first c.in-Err-write_back.fault (attachments_of c.args.attached.now.slots) c.args.attached.now.disk
     (g.F.Files.state c.args.files.now).files c.in-Err-write_back.ensures.said
 
@@ -32,7 +33,7 @@ digest_each-requires-clause-apart g c =
     (unread-apart (attachments_of c.args.attached.now.slots))
 
 pub returns-in-Ok-digest_each-clause-first : goal.returns-in-Ok-digest_each-clause-first
-returns-in-Ok-digest_each-clause-first g c = λ t.
+returns-in-Ok-digest_each-clause-first g c = λ t step.
     none-unsaved (attachments_of c.args.attached.now.slots) c.args.attached.now.disk
     (g.F.Files.state c.args.files.now).files
 
@@ -43,17 +44,17 @@ returns-in-Err-digest_each-clause-disk g c =
     c.in-Err-digest_each.ensures.calls
 
 pub returns-in-Err-digest_each-clause-files : goal.returns-in-Err-digest_each-clause-files
-returns-in-Err-digest_each-clause-files g c =
-    c.in-Err-digest_each.ensures.files ∙ c.in-Ok-write_back.ensures.files
+returns-in-Err-digest_each-clause-files g c = λ step.
+    c.in-Err-digest_each.ensures.files ∙ c.in-Ok-write_back.ensures.files step
     ∙ reading-files c.in-Err-digest_each.fault (attachments_of c.args.attached.now.slots) c.args.attached.now.disk
     (g.F.Files.state c.args.files.now).files c.in-Err-digest_each.ensures.calls
 
 pub returns-in-Err-digest_each-clause-first : goal.returns-in-Err-digest_each-clause-first
-returns-in-Err-digest_each-clause-first g c = λ t.
+returns-in-Err-digest_each-clause-first g c = λ t step.
     let now = (g.F.Files.state c.write_back.new.files).files in
     let fault = c.in-Err-digest_each.fault in
     unread-unsaved fault (attachments_of c.args.attached.now.slots) c.args.attached.now.disk
-    (g.F.Files.state c.args.files.now).files now c.in-Err-digest_each.ensures.calls c.in-Ok-write_back.ensures.files
+    (g.F.Files.state c.args.files.now).files now c.in-Err-digest_each.ensures.calls (c.in-Ok-write_back.ensures.files step)
     (subst (λ (l : List FilePart). first_unread (fault_claim fault) now l ≡ fault_claim fault)
     (ap files_in c.as_mut_slice.ensures.value ∙ c.in-Ok.ensures.files) (c.in-Err-digest_each.ensures.told t))
 
@@ -106,3 +107,15 @@ returns-in-Ok-digest_each-clause-named g c =
     (sym (ap files_in
     (whole-of c.in-Ok.saved.len new (drop (length new) c.in-Ok.saved.items) (omega (arith, long, same)))))
     (named-as (files_in new) (files_in slice) names named)
+
+pub returns-in-Ok-digest_each-clause-step : goal.returns-in-Ok-digest_each-clause-step
+returns-in-Ok-digest_each-clause-step g c = λ step.
+    step-same c.write_back.new.attached c.digest_each.new.attached (g.F.Files.state c.write_back.new.files).files
+    (g.F.Files.state c.digest_each.new.files).files c.in-Ok-digest_each.ensures.kept c.in-Ok-digest_each.ensures.files
+    (c.in-Ok-write_back.ensures.step step)
+
+pub returns-in-Err-digest_each-clause-step : goal.returns-in-Err-digest_each-clause-step
+returns-in-Err-digest_each-clause-step g c = λ step.
+    step-same c.write_back.new.attached c.digest_each.new.attached (g.F.Files.state c.write_back.new.files).files
+    (g.F.Files.state c.digest_each.new.files).files c.in-Err-digest_each.ensures.kept c.in-Err-digest_each.ensures.files
+    (c.in-Ok-write_back.ensures.step step)

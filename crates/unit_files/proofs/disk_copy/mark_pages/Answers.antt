@@ -1,5 +1,6 @@
 use Rattle.std.proofs.Common.{◌*◌, ℕ, min, ap, ◌∙◌, arith}
-use Rattle.unit_files.specs.Buffer.{page_bytes, sector_bytes, page_of, marked}
+use Rattle.unit_files.specs.Pages.{page_bytes, page_of, marked}
+use Rattle.unit_files.specs.Buffer.{sector_bytes}
 use Rattle.unit_files.proofs.Marks.{sector-below, page-order}
 use Rattle.unit_files.proofs.disk_copy.mark_pages.Goals as goal
 

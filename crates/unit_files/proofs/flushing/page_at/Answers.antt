@@ -1,6 +1,6 @@
 use Rattle.std.proofs.Common.{length, drop, min, rules}
 use Rattle.std.proofs.lemmas.List.{take_min}
-use Rattle.unit_files.specs.Buffer.{page_bytes}
+use Rattle.unit_files.specs.Pages.{page_bytes}
 use Rattle.unit_files.proofs.Sectors.{behind-place}
 use Rattle.unit_files.proofs.flushing.page_at.Goals as goal
 

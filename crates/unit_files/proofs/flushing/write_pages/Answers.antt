@@ -2,8 +2,9 @@ use Rattle.std.proofs.Common.{◌*◌, List, length, drop, refl, ap, sym, ◌∙
 use Rattle.std.proofs.lemmas.List.{length-take}
 use Rattle.file_traits.specs.Lists.{changed}
 use Rattle.file_traits.specs.State.{Opened, name_at}
-use Rattle.unit_files.specs.Acts.{piece_of, written_pages}
-use Rattle.unit_files.specs.Buffer.{page_bytes, disk_pages}
+use Rattle.unit_files.specs.Pages.{page_bytes, disk_pages}
+use Rattle.unit_files.specs.InStep.{written_pages}
+use Rattle.unit_files.specs.Acts.{piece_of}
 use Rattle.unit_files.proofs.WrittenPages.{unchanged, page-written, page-failed, end-within, all-written, claimed}
 use Rattle.unit_files.proofs.flushing.write_pages.Goals as goal
 

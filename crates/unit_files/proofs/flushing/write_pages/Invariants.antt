@@ -1,7 +1,7 @@
 use Rattle.std.proofs.Common.{◌≡◌, ℕ, List, take}
 use Rattle.file_traits.specs.Lists.{changed}
 use Rattle.file_traits.specs.State.{name_at}
-use Rattle.unit_files.specs.Acts.{written_pages}
+use Rattle.unit_files.specs.InStep.{written_pages}
 use Rattle.unit_files.specs.Causes.{IsQuiet}
 use Rattle.unit_files.proofs.flushing.write_pages.Given as goal
 

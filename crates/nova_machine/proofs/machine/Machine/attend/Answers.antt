@@ -2,8 +2,10 @@ use Rattle.nova_machine.specs.Comes.{output}
 use Rattle.nova_machine.specs.Seen.{seen, beside}
 use Rattle.nova_machine.proofs.Turning.{attended-comes, served-stops}
 use Rattle.nova_machine.specs.Notes.{unit_note}
-use Rattle.std.proofs.Common.{Some, inl, refl}
+use Rattle.std.proofs.Common.{Some, inl, ap, refl, ◌∙◌}
 use Rattle.nova_machine.proofs.Steps.{entered-behind}
+use Rattle.nova_machine.specs.Machine.{attached_files}
+use Rattle.nova_machine.proofs.Copies.{entered-attached, covers-to}
 use Rattle.nova_machine.proofs.machine.Machine.attend.Goals as goal
 
 pub returns-in-None-clause-told : goal.returns-in-None-clause-told
@@ -26,3 +28,8 @@ returns-in-None-clause-steps g c =
 
 pub returns-in-Some-clause-steps : goal.returns-in-Some-clause-steps
 returns-in-Some-clause-steps g c = inl c.in-Some.ensures.steps
+
+pub returns-in-None-clause-covers : goal.returns-in-None-clause-covers
+returns-in-None-clause-covers g c =
+    covers-to (attached_files c.args.self.now) (attached_files c.serve.new.self) (attached_files c.interrupt.new.self) c.in-None.ensures.covers
+    (ap attached_files c.interrupt.ensures.machine ∙ entered-attached c.serve.new.self)

@@ -4,6 +4,8 @@ use Rattle.nova_machine.proofs.LineSteps.{lines-stay}
 use Rattle.nova_machine.proofs.Plain.{plain-whole}
 use Rattle.nova_machine.proofs.Causes.{watches-still}
 use Rattle.nova_machine.proofs.Steps.{plain-comes}
+use Rattle.nova_machine.specs.Machine.{attached_files}
+use Rattle.nova_machine.proofs.Copies.{covers-still}
 use Rattle.nova_machine.proofs.machine.Machine.come_to.Goals as goal
 
 pub returns-then-is_plain-clause-told : goal.returns-then-is_plain-clause-told
@@ -18,3 +20,6 @@ returns-then-is_plain-clause-lines g c = lines-stay g.L.Lines.tells (g.L.Lines.s
 
 pub returns-then-is_plain-clause-steps : goal.returns-then-is_plain-clause-steps
 returns-then-is_plain-clause-steps g c = plain-comes c.args.keys.now c.args.watch.now c.args.self.now (c.is_plain.ensures c.if-is_plain.true)
+
+pub returns-then-is_plain-clause-covers : goal.returns-then-is_plain-clause-covers
+returns-then-is_plain-clause-covers g c = covers-still (attached_files c.args.self.now) (attached_files c.args.self.now) refl

@@ -17,6 +17,7 @@ bursts-init g c = record {
   lines = lines-stay g.L.Lines.tells (g.L.Lines.state c.args.lines.now) c.args.self.now.lines;
   kinds = refl;
   slots = refl;
+  attached = refl;
   taken = refl;
   known = tt;
   few = omega arith;
@@ -106,6 +107,7 @@ bursts-preserved g c =
           (subst (λ (ls : List (LineOf ℕ)). LinesGoOn tells mid ls after new.lines) c.burst-burst.ensures.lines c.look_on_line-period.ensures.lines);
       kinds = c.look_on_line-period.ensures.kinds ∙ ap (λ (us : List UnitState). kinds_of us) c.burst-burst.ensures.units ∙ c.bursts.invariant.kinds;
       slots = c.look_on_line-period.ensures.slots ∙ c.burst-burst.ensures.slots ∙ c.bursts.invariant.slots;
+      attached = c.look_on_line-period.ensures.attached ∙ c.burst-burst.ensures.attached ∙ c.bursts.invariant.attached;
       taken = c.look_on_line-period.ensures.taken ∙ c.burst-burst.ensures.taken ∙ c.bursts.invariant.taken;
       known = c.look_on_line-period.ensures.again;
       few = omega (arith, few, within);

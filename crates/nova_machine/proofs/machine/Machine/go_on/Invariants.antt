@@ -1,6 +1,7 @@
 use Rattle.std.proofs.Common.{◌≡◌, ◌≤◌, ◌+◌, ◌-◌, IfSome}
 use Rattle.nova_processor.specs.declared.burst.BurstEnd.TheVariants as burst_end
 use Rattle.unit_list.specs.Bus.{kinds_of}
+use Rattle.nova_machine.specs.Machine.{attached_files}
 use Rattle.nova_machine.specs.LineChanges.{AreLinesTold, LinesGoOn}
 use Rattle.nova_machine.specs.LineLooks.{LookAgain, GoesOn}
 use Rattle.nova_machine.proofs.Steps.{WentOn}
@@ -14,6 +15,7 @@ invariant-bursts g l = record {
   lines : LinesGoOn g.L.Lines.tells (g.L.Lines.state l.fn.lines) l.fn.self.lines (g.L.Lines.state l.lines) l.self.lines;
   kinds : kinds_of l.self.units ≡ kinds_of l.fn.self.units;
   slots : l.self.slots ≡ l.fn.self.slots;
+  attached : attached_files l.self ≡ attached_files l.fn.self;
   taken : l.self.taken ≡ l.fn.self.taken;
   known : IfSome l.period (λ period. LookAgain period l.self.units);
   few : l.done ≤ l.most;

@@ -1,11 +1,12 @@
 use Rattle.std.proofs.Common.{◌≡◌, ◌+◌, ◌≤◌, ap, ◌∙◌, arith, rules}
-use Rattle.nova_machine.specs.Machine.{MachineState, on_processor}
+use Rattle.nova_machine.specs.Machine.{MachineState, on_processor, attached_files}
 use Rattle.nova_machine.specs.Run.{last_time}
 use Rattle.nova_machine.specs.Bursts.{IsCalm, passed_by}
 use Rattle.nova_machine.specs.Waits.{halfway}
 use Rattle.nova_machine.proofs.Bursts.{calm-less, passed-slots, passed-lines, passed-units, passed-time}
 use Rattle.nova_machine.proofs.Waits.{waits-told}
 use Rattle.nova_machine.proofs.InstructionCauses.{passed-taken}
+use Rattle.nova_machine.proofs.Copies.{passed-attached}
 use Rattle.nova_machine.proofs.machine.Machine.pass_rounds.Goals as goal
 
 pub returns-clause-told : goal.returns-clause-told
@@ -25,6 +26,13 @@ returns-clause-slots g c =
     let budget = c.min-budget.result in
     let is : c.pass_time.new.self ≡ passed_by budget (on_processor (halfway budget) old) = search rules in
     ap (λ (m : MachineState). m.slots) is ∙ passed-slots budget (on_processor (halfway budget) old)
+
+pub returns-clause-attached : goal.returns-clause-attached
+returns-clause-attached g c =
+    let old = c.args.self.now in
+    let budget = c.min-budget.result in
+    let is : c.pass_time.new.self ≡ passed_by budget (on_processor (halfway budget) old) = search rules in
+    ap attached_files is ∙ passed-attached budget (on_processor (halfway budget) old)
 
 pub returns-clause-lines : goal.returns-clause-lines
 returns-clause-lines g c =

@@ -1,9 +1,10 @@
 use Rattle.std.proofs.Common.{◌≡◌, ap, ◌∙◌, arith, rules}
-use Rattle.nova_machine.specs.Machine.{MachineState, on_processor}
+use Rattle.nova_machine.specs.Machine.{MachineState, on_processor, attached_files}
 use Rattle.nova_machine.specs.Looks.{idled_by}
 use Rattle.nova_machine.specs.Waits.{halfway}
 use Rattle.nova_machine.proofs.Idling.{idled-slots, idled-lines, idled-units, idled-time, passed-keys}
 use Rattle.nova_machine.proofs.IdleWaits.{idle-waits}
+use Rattle.nova_machine.proofs.Copies.{idled-attached}
 use Rattle.nova_machine.proofs.machine.Machine.pass_rounds_and_looks.Goals as goal
 
 pub returns-clause-told : goal.returns-clause-told
@@ -19,6 +20,13 @@ returns-clause-slots g c =
     let budget = c.idle_budget-budget.result in
     let is : c.pass_looks.new.self ≡ idled_by c.args.looks.period budget (on_processor (halfway budget) old) = search rules in
     ap (λ (m : MachineState). m.slots) is ∙ idled-slots c.args.looks.period budget (on_processor (halfway budget) old)
+
+pub returns-clause-attached : goal.returns-clause-attached
+returns-clause-attached g c =
+    let old = c.args.self.now in
+    let budget = c.idle_budget-budget.result in
+    let is : c.pass_looks.new.self ≡ idled_by c.args.looks.period budget (on_processor (halfway budget) old) = search rules in
+    ap attached_files is ∙ idled-attached c.args.looks.period budget (on_processor (halfway budget) old)
 
 pub returns-clause-lines : goal.returns-clause-lines
 returns-clause-lines g c =

@@ -2,7 +2,7 @@ use Rattle.std.proofs.Common.{◌∙◌, ℕ, List, ap, refl, sym, subst}
 use Rattle.telnet_lines.specs.Line.{LineOf}
 use Rattle.host_lines.specs.State.{LineState}
 use Rattle.unit_trait.specs.declared.calls.Got.TheVariants.{Key}
-use Rattle.nova_machine.specs.Machine.{MachineState}
+use Rattle.nova_machine.specs.Machine.{MachineState, attached_files}
 use Rattle.nova_machine.specs.LineChanges.{LinesGoOn}
 use Rattle.nova_machine.specs.LineLooks.{second_keyboard, first_looked, IsAhead}
 use Rattle.nova_machine.proofs.Idling.{looked-slots, looked-lines, looked-time}
@@ -10,6 +10,7 @@ use Rattle.nova_machine.proofs.LineLooks.{silent-ahead, key-ahead, nothing-ahead
 use Rattle.nova_machine.proofs.ServiceCauses.{answered-taken}
 use Rattle.nova_machine.specs.Steps.{Services, no_services}
 use Rattle.nova_machine.proofs.Steps.{silent-looks, key-looks}
+use Rattle.nova_machine.proofs.Copies.{answered-attached, looked-attached}
 use Rattle.nova_machine.proofs.machine.Machine.poll_both.Goals as goal
 
 pub returns-in-None-clause-told : goal.returns-in-None-clause-told
@@ -31,6 +32,16 @@ returns-in-None-key_in-clause-again g c =
 pub returns-in-None-key_in-clause-slots : goal.returns-in-None-key_in-clause-slots
 returns-in-None-key_in-clause-slots g c =
     ap (λ (m : MachineState). m.slots) c.look.ensures ∙ looked-slots c.args.period c.key_of_line.new.self ∙ ap (λ (m : MachineState). m.slots) c.in-Some.ensures.machine
+
+pub returns-in-None-key_in-clause-attached : goal.returns-in-None-key_in-clause-attached
+returns-in-None-key_in-clause-attached g c =
+    ap attached_files c.look.ensures ∙ looked-attached c.args.period c.key_of_line.new.self ∙ ap attached_files c.in-Some.ensures.machine
+
+pub returns-in-Some-key_in-clause-attached : goal.returns-in-Some-key_in-clause-attached
+returns-in-Some-key_in-clause-attached g c =
+    ap attached_files c.take_key_of_line.ensures.machine
+    ∙ answered-attached second_keyboard (Key c.in-Some-key_in.key) (first_looked c.args.period c.key_of_line.new.self)
+    ∙ ap attached_files c.in-Some.ensures.machine
 
 pub returns-in-None-key_in-clause-lines : goal.returns-in-None-key_in-clause-lines
 returns-in-None-key_in-clause-lines g c =

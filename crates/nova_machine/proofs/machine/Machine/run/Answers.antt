@@ -18,6 +18,8 @@ use Rattle.nova_machine.proofs.RunCauses.{run-stopped, run-expired, expired-no-m
 use Rattle.nova_machine.specs.declared.machine.Stop.{Stop}
 use Rattle.nova_machine.specs.Steps.{Turns, no_turns, one_turn, IsRun, expires, time_ends, turn_stops}
 use Rattle.nova_machine.proofs.Steps.{along-on, along-ends}
+use Rattle.nova_machine.specs.Machine.{attached_files}
+use Rattle.nova_machine.proofs.Copies.{covers-still, covers-to, covers-then}
 use Rattle.nova_machine.proofs.machine.Machine.run.Goals as goal
 
 pub returns-then-self-eq-LAST_TIME-clause-told : goal.returns-then-self-eq-LAST_TIME-clause-told
@@ -114,6 +116,9 @@ turns-preserved g c =
           early refl one (subst P (sym none) (c.in-Executed.ensures.told now lt-now whole behind))
           (on note step files g.S.Sink.tells console r last after whole first-of (subst Q rest more)));
       slots = search rules;
+      covers =
+          covers-to (attached_files c.args.self.now) (attached_files c.turn.new.self) (attached_files c.go_on-burst.new.self)
+          (covers-then c.args.self.now c.turns.self c.turn.new.self c.turns.invariant.covers c.in-Executed.ensures.covers) c.go_on-burst.ensures.attached;
       kinds = c.go_on-burst.ensures.kinds ∙ c.turn.ensures.kinds ∙ c.turns.invariant.kinds;
       lines =
           let before = g.L.Lines.state c.turns.lines in
@@ -168,6 +173,7 @@ turns-init g c = record {
   told = λ told lt note r s after whole first-of still comes. comes;
   lines = lines-stay g.L.Lines.tells (g.L.Lines.state c.args.lines.now) c.args.self.now.lines;
   slots = refl;
+  covers = covers-still (attached_files c.args.self.now) (attached_files c.args.self.now) refl;
   kinds = refl;
   opened = refl;
   is_open = c.requires.«open»;
@@ -292,3 +298,11 @@ returns-clause-steps g c =
     let none : c.turns.left ≡ 0 = search rules in
     subst (λ (x : Stop). IsRun keys c.args.limit.step count start old x c.turns.watch c.turns.self) (sym c.expired.ensures.stop)
     (expires c.turns.first c.turns.watch c.turns.self (subst (λ (n : ℕ). Turns keys count start old c.turns.first n c.turns.watch c.turns.self) none c.turns.invariant.steps))
+
+pub returns-in-Stopped-clause-covers : goal.returns-in-Stopped-clause-covers
+returns-in-Stopped-clause-covers g c = covers-then c.args.self.now c.turns.self c.turn.new.self c.turns.invariant.covers c.in-Stopped.ensures.covers
+
+pub returns-in-ChainLimit-clause-covers : goal.returns-in-ChainLimit-clause-covers
+returns-in-ChainLimit-clause-covers g c =
+    covers-to (attached_files c.args.self.now) (attached_files c.turn.new.self) (attached_files c.go_on-burst.new.self)
+    (covers-then c.args.self.now c.turns.self c.turn.new.self c.turns.invariant.covers c.in-Executed.ensures.covers) c.go_on-burst.ensures.attached

@@ -3,6 +3,8 @@ use Rattle.unit_files.specs.Open.{AllOpen}
 use Rattle.unit_files.specs.Causes.{IsQuiet}
 use Rattle.unit_list.specs.Bus.{kinds_of}
 use Rattle.nova_machine.specs.declared.machine.Stop.{Stop}
+use Rattle.unit_files.specs.InStep.{MarksCover}
+use Rattle.nova_machine.specs.Machine.{attached_files}
 use Rattle.nova_machine.specs.Notes.{RunNote}
 use Rattle.nova_machine.specs.Seen.{Seen, seen, beside}
 use Rattle.nova_machine.specs.Run.{run, turns}
@@ -27,6 +29,7 @@ invariant-turns g l = record {
       (output (g.S.Sink.written l.fn.out) (g.L.Lines.state l.fn.lines).sent) after;
   lines : LinesGoOn g.L.Lines.tells (g.L.Lines.state l.fn.lines) l.fn.self.lines (g.L.Lines.state l.lines) l.self.lines;
   slots : l.self.slots ≡ l.fn.self.slots;
+  covers : MarksCover (attached_files l.fn.self) (attached_files l.self);
   kinds : kinds_of l.self.units ≡ kinds_of l.fn.self.units;
   opened : (g.F.Files.state l.files).opened ≡ (g.F.Files.state l.fn.files).opened;
   is_open : AllOpen l.self.slots (g.F.Files.state l.files).opened;

@@ -14,11 +14,12 @@ use Rattle.nova_machine.proofs.Serving.{stop-at, more-at, none-at, note-first, n
 use Rattle.nova_machine.proofs.Parts.{counts-none}
 use Rattle.nova_machine.proofs.Quiet.{told-same, quiet-same, quiet-none, quiet-then, cause-behind}
 use Rattle.nova_machine.specs.declared.machine.Stop.{Stop}
-use Rattle.nova_machine.specs.Machine.{MachineState}
+use Rattle.nova_machine.specs.Machine.{MachineState, attached_files}
 use Rattle.nova_machine.specs.StopCauses.{moment_of, Watches}
 use Rattle.nova_machine.proofs.Causes.{watches-still, watches-goes, watches-left, service-then}
 use Rattle.nova_machine.specs.Steps.{no_services}
 use Rattle.nova_machine.proofs.Steps.{one-service, one-stops, none-more}
+use Rattle.nova_machine.proofs.Copies.{covers-still, covers-from, covers-to, covers-then}
 use Rattle.nova_machine.proofs.machine.Machine.serve.Goals as goal
 
 pub returns-in-Some-serve_unit-clause-told : goal.returns-in-Some-serve_unit-clause-told
@@ -47,6 +48,7 @@ events-init g c = record {
   lines = lines-stay g.L.Lines.tells (g.L.Lines.state c.args.lines.now) c.args.self.now.lines;
   time = refl;
   slots = refl;
+  covers = covers-still (attached_files c.args.self.now) (attached_files c.args.self.now) refl;
   kinds = refl;
   opened = refl;
   is_open = c.requires.«open»;
@@ -91,6 +93,10 @@ events-preserved g c =
           (subst (λ (ls : List (LineOf ℕ)). LinesGoOn g.L.Lines.tells mid ls new c.serve_unit.new.self.lines) taken c.serve_unit.ensures.lines);
       time = search rules;
       slots = search rules;
+      covers =
+          covers-then c.args.self.now c.events.self c.serve_unit.new.self c.events.invariant.covers
+          (covers-from (attached_files c.events.self) (attached_files c.take_due.new.self) (attached_files c.serve_unit.new.self)
+          (ap attached_files c.take_due.ensures.taken) c.serve_unit.ensures.covers);
       kinds = c.serve_unit.ensures.kinds ∙ ap (λ (m : MachineState). kinds_of m.units) c.take_due.ensures.taken ∙ c.events.invariant.kinds;
       opened = c.serve_unit.ensures.opened ∙ c.events.invariant.opened;
       is_open = search rules;
@@ -172,3 +178,14 @@ pub returns-clause-steps : goal.returns-clause-steps
 returns-clause-steps g c =
     let none : due c.events.self.events ≡ None = search rules in
     none-more c.args.keys.now c.args.watch.now c.events.watch c.args.self.now c.events.self c.take_due.new.self none c.take_due.ensures.taken c.events.invariant.steps
+
+pub returns-in-Some-serve_unit-clause-covers : goal.returns-in-Some-serve_unit-clause-covers
+returns-in-Some-serve_unit-clause-covers g c =
+    covers-then c.args.self.now c.events.self c.serve_unit.new.self c.events.invariant.covers
+    (covers-from (attached_files c.events.self) (attached_files c.take_due.new.self) (attached_files c.serve_unit.new.self)
+    (ap attached_files c.take_due.ensures.taken) c.in-Some-serve_unit.ensures.covers)
+
+pub returns-clause-covers : goal.returns-clause-covers
+returns-clause-covers g c =
+    covers-to (attached_files c.args.self.now) (attached_files c.events.self) (attached_files c.take_due.new.self) c.events.invariant.covers
+    (ap attached_files c.take_due.ensures.taken)

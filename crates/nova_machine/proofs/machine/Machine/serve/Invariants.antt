@@ -4,6 +4,8 @@ use Rattle.unit_files.specs.Causes.{IsQuiet}
 use Rattle.event_queue.specs.EventList.{dues}
 use Rattle.unit_list.specs.Bus.{kinds_of}
 use Rattle.nova_machine.specs.declared.machine.Stop.{Stop}
+use Rattle.unit_files.specs.InStep.{MarksCover}
+use Rattle.nova_machine.specs.Machine.{attached_files}
 use Rattle.nova_machine.specs.Notes.{UnitNote}
 use Rattle.nova_machine.specs.Seen.{Seen, seen, beside}
 use Rattle.nova_machine.specs.Comes.{Output, output, Comes, AreTold}
@@ -29,6 +31,7 @@ invariant-events g l = record {
   lines : LinesGoOn g.L.Lines.tells (g.L.Lines.state l.fn.lines) l.fn.self.lines (g.L.Lines.state l.lines) l.self.lines;
   time : l.self.time ≡ l.fn.self.time;
   slots : l.self.slots ≡ l.fn.self.slots;
+  covers : MarksCover (attached_files l.fn.self) (attached_files l.self);
   kinds : kinds_of l.self.units ≡ kinds_of l.fn.self.units;
   opened : (g.F.Files.state l.files).opened ≡ (g.F.Files.state l.fn.files).opened;
   is_open : AllOpen l.self.slots (g.F.Files.state l.files).opened;

@@ -10,7 +10,7 @@ use Rattle.nova_machine.specs.Wants.{first_key}
 use Rattle.nova_machine.specs.declared.service.Hosted.TheVariants.{Gets, Stops}
 use Rattle.nova_machine.specs.declared.service.Hosted.TheVariants as hosted
 use Rattle.nova_machine.specs.declared.machine.Stop.TheVariants.{Wru, Expect}
-use Rattle.nova_machine.specs.Machine.{MachineState}
+use Rattle.nova_machine.specs.Machine.{MachineState, attached_files}
 use Rattle.telnet_lines.specs.Line.{LineOf}
 use Rattle.unit_trait.specs.declared.calls.Got.{Got}
 use Rattle.nova_machine.specs.Notes.{failure_of_stop}
@@ -25,6 +25,7 @@ use Rattle.nova_machine.specs.StopCauses.{moment_of}
 use Rattle.nova_machine.proofs.ServiceCauses.{Hosts as Facts, line-cause, asked-taken, answered-taken, answered-no-match, stops-no-match, hosts-watches, hosts-wru, hosts-gets}
 use Rattle.nova_machine.specs.Steps.{IsMade}
 use Rattle.nova_machine.proofs.Steps.{turned-is, made-of, on-a-line}
+use Rattle.nova_machine.proofs.Copies.{lined-covers, hosted-covers, served-covers}
 use Rattle.nova_machine.proofs.machine.Machine.serve_unit.Goals as goal
 
 pub returns-in-Gets-clause-told : goal.returns-in-Gets-clause-told
@@ -355,3 +356,30 @@ returns-in-Stops-clause-steps g c =
       work = made-of c.args.keys.now c.args.unit w c.args.watch.now c.host.new.watch c.args.self.now c.on_line.new.self c.host.new.self made asks c.ask-want.ensures.want work;
       left = refl;
     })
+
+-- ---- the disk's copy
+
+pub returns-in-Some-clause-covers : goal.returns-in-Some-clause-covers
+returns-in-Some-clause-covers g c =
+    lined-covers c.args.unit c.args.self.now c.ask-want.new.self c.on_line.new.self c.ask-want.ensures.machine (ap attached_files c.on_line.ensures.machine)
+    c.in-Some.got c.answer.new.self c.answer.ensures.machine
+
+pub returns-in-Gets-clause-covers : goal.returns-in-Gets-clause-covers
+returns-in-Gets-clause-covers g c =
+    served-covers c.args.unit c.args.self.now c.ask-want.new.self c.on_line.new.self c.ask-want.ensures.machine (ap attached_files c.on_line.ensures.machine)
+    c.in-Gets.got c.host.new.self c.answer-in-Gets.new.self c.in-Gets.ensures.covers c.answer-in-Gets.ensures.machine
+
+pub returns-in-Wru-clause-covers : goal.returns-in-Wru-clause-covers
+returns-in-Wru-clause-covers g c =
+    served-covers c.args.unit c.args.self.now c.ask-want.new.self c.on_line.new.self c.ask-want.ensures.machine (ap attached_files c.on_line.ensures.machine)
+    gots.NoKey c.host.new.self c.answer-in-Wru.new.self c.in-Wru.ensures.covers c.answer-in-Wru.ensures.machine
+
+pub returns-in-Matched-clause-covers : goal.returns-in-Matched-clause-covers
+returns-in-Matched-clause-covers g c =
+    served-covers c.args.unit c.args.self.now c.ask-want.new.self c.on_line.new.self c.ask-want.ensures.machine (ap attached_files c.on_line.ensures.machine)
+    gots.Done c.host.new.self c.answer-in-Matched.new.self c.in-Matched.ensures.covers c.answer-in-Matched.ensures.machine
+
+pub returns-in-Stops-clause-covers : goal.returns-in-Stops-clause-covers
+returns-in-Stops-clause-covers g c =
+    hosted-covers c.args.unit c.args.self.now c.ask-want.new.self c.on_line.new.self c.ask-want.ensures.machine (ap attached_files c.on_line.ensures.machine)
+    c.host.new.self c.in-Stops.ensures.covers

@@ -8,6 +8,8 @@ use Rattle.nova_machine.proofs.Turning.{turn-comes, prepared-stops, ended-own}
 use Rattle.nova_machine.specs.Notes.{unit_note}
 use Rattle.nova_machine.specs.Steps.{ended, made_ready, fetched_on, went_on}
 use Rattle.nova_machine.proofs.Steps.{turned-is, behind-comes, stops-before, goes-behind}
+use Rattle.nova_machine.specs.Machine.{attached_files}
+use Rattle.nova_machine.proofs.Copies.{fetched-attached, covers-to}
 use Rattle.nova_machine.proofs.machine.Machine.turn.Goals as goal
 
 pub returns-in-None-clause-told : goal.returns-in-None-clause-told
@@ -39,3 +41,8 @@ returns-in-None-clause-steps g c =
 pub returns-in-Some-clause-steps : goal.returns-in-Some-clause-steps
 returns-in-Some-clause-steps g c =
     stops-before (made_ready c.args.first) fetched_on c.args.keys.now c.in-Some.stop c.args.watch.now c.prepare.new.watch c.args.self.now c.prepare.new.self c.in-Some.ensures.steps
+
+pub returns-in-None-clause-covers : goal.returns-in-None-clause-covers
+returns-in-None-clause-covers g c =
+    covers-to (attached_files c.args.self.now) (attached_files c.prepare.new.self) (attached_files c.fetch.new.self) c.in-None.ensures.covers
+    (ap attached_files c.fetch.ensures.machine ∙ fetched-attached c.prepare.new.self)

@@ -1,13 +1,14 @@
 use Rattle.std.proofs.Common.{◌≡◌, ◌+◌, ◌≤◌, List, ap, refl, subst, ◌∙◌, arith, rules}
 use Rattle.expect_actions.specs.declared.breaks.Break.{Break}
 use Rattle.expect_actions.specs.Watch.{WatchState}
-use Rattle.nova_machine.specs.Machine.{MachineState}
+use Rattle.nova_machine.specs.Machine.{MachineState, attached_files}
 use Rattle.nova_machine.specs.Run.{last_time}
 use Rattle.nova_processor.specs.Burst.{IsBurst}
 use Rattle.expect_actions.specs.Breaks.{has_break}
 use Rattle.nova_machine.specs.Bursts.{IsCalm, passed_by}
 use Rattle.nova_machine.proofs.Bursts.{burst-told, calm-less, passed-slots, passed-lines, passed-units, passed-time}
 use Rattle.nova_machine.proofs.InstructionCauses.{passed-taken, any-burst-cause}
+use Rattle.nova_machine.proofs.Copies.{passed-attached}
 use Rattle.nova_machine.proofs.machine.Machine.work.Goals as goal
 
 pub returns-clause-told : goal.returns-clause-told
@@ -30,6 +31,12 @@ returns-clause-slots g c =
     let old = c.args.self.now in
     let is : c.pass_time.new.self ≡ passed_by c.step_to_break-burst.result.done (record old { processor = c.step_to_break-burst.new.self.processor }) = search rules in
     ap (λ (m : MachineState). m.slots) is ∙ passed-slots c.step_to_break-burst.result.done (record old { processor = c.step_to_break-burst.new.self.processor })
+
+pub returns-clause-attached : goal.returns-clause-attached
+returns-clause-attached g c =
+    let old = c.args.self.now in
+    let is : c.pass_time.new.self ≡ passed_by c.step_to_break-burst.result.done (record old { processor = c.step_to_break-burst.new.self.processor }) = search rules in
+    ap attached_files is ∙ passed-attached c.step_to_break-burst.result.done (record old { processor = c.step_to_break-burst.new.self.processor })
 
 pub returns-clause-lines : goal.returns-clause-lines
 returns-clause-lines g c =

@@ -3,10 +3,11 @@ use Rattle.expect_actions.specs.declared.breaks.Break.{Break}
 use Rattle.expect_actions.specs.Breaks.{has_break}
 use Rattle.expect_actions.specs.Watch.{WatchState}
 use Rattle.nova_processor.specs.Burst.{IsBurst}
-use Rattle.nova_machine.specs.Machine.{MachineState}
+use Rattle.nova_machine.specs.Machine.{MachineState, attached_files}
 use Rattle.nova_machine.specs.Looks.{idled_by, idle_end}
 use Rattle.nova_machine.proofs.Idling.{idle-told, idled-slots, idled-lines, idled-units, idled-time, idled-taken, end-slots, end-lines, end-units, end-time}
 use Rattle.nova_machine.proofs.InstructionCauses.{any-idle-cause}
+use Rattle.nova_machine.proofs.Copies.{end-attached, idled-attached}
 use Rattle.nova_machine.proofs.machine.Machine.work_on.Goals as goal
 
 pub returns-clause-told : goal.returns-clause-told
@@ -34,6 +35,17 @@ returns-clause-slots g c =
     let passed : c.pass_looks.new.self ≡ idled_by period done (record old { processor = q }) = search rules in
     ap (λ (m : MachineState). m.slots) c.end_looks.ensures ∙ end-slots end period c.pass_looks.new.self
     ∙ ap (λ (m : MachineState). m.slots) passed ∙ idled-slots period done (record old { processor = q })
+
+pub returns-clause-attached : goal.returns-clause-attached
+returns-clause-attached g c =
+    let old = c.args.self.now in
+    let q = c.step_to_break-burst.new.self.processor in
+    let done = c.step_to_break-burst.result.done in
+    let end = c.step_to_break-burst.result.end in
+    let period = c.args.looks.period in
+    let passed : c.pass_looks.new.self ≡ idled_by period done (record old { processor = q }) = search rules in
+    ap attached_files c.end_looks.ensures ∙ end-attached end period c.pass_looks.new.self
+    ∙ ap attached_files passed ∙ idled-attached period done (record old { processor = q })
 
 pub returns-clause-lines : goal.returns-clause-lines
 returns-clause-lines g c =

@@ -1,11 +1,15 @@
-use Rattle.std.proofs.Common.{◌≡◌, ◌<◌, Some, None, List, Option, subst, sym, rules, refl, arith}
+use Rattle.std.proofs.Common.{◌≡◌, ◌<◌, Bool, false, Some, None, IsSome, List, Option, ap, subst, sym, ◌∙◌, rules, refl, arith, if◌then◌else◌}
+use Rattle.file_traits.specs.Lists.{find_file}
 use Rattle.file_traits.specs.State.{Opened}
 use Rattle.unit_files.specs.Acts.{is_read_only}
-use Rattle.unit_files.specs.Attachments.{Held, held_at, with_held, file_place}
+use Rattle.unit_files.specs.Attachments.{Attachment, Held, held_at, with_held, file_place, attachments_of, with_attachment}
+use Rattle.unit_files.specs.Pages.{no_marks}
+use Rattle.unit_files.specs.Buffer.{Buffer}
 use Rattle.unit_files.specs.Open.{AllOpen, Around}
 use Rattle.unit_files.specs.Opening.{IsNewlyOpen}
 use Rattle.unit_files.specs.Causes.{AreFrom}
 use Rattle.unit_files.proofs.Attaching.{free, open-attached, around-attached, from-with}
+use Rattle.unit_files.proofs.InStep.{opening-there, step-attached}
 use Rattle.unit_files.proofs.attached.Attached.attach.Goals as goal
 
 pub put-requires-clause-own : goal.put-requires-clause-own
@@ -50,6 +54,22 @@ returns-in-Ok-take_file-clause-around g c = λ base around.
     let more = around-attached c.args.self.now.slots base old.opened (file_place c.args.unit) h entry refl none
     c.put.ensures.within is.fresh c.requires.«open» around in
     subst (λ (x : List (Option Held) × List Opened). Around x.0 base x.1) (λ i. (sym held i, sym is.opened i)) more
+
+pub returns-in-Ok-take_file-clause-step : goal.returns-in-Ok-take_file-clause-step
+returns-in-Ok-take_file-clause-step g c = λ tells is.
+    let old = g.F.Files.state c.args.files.now in
+    let new = g.F.Files.state c.take_file.new.files in
+    let a : Attachment = record { name = c.args.name.now; read_only = is_read_only c.args.mode } in
+    let there : IsSome (find_file new.files c.args.name.now) =
+    opening-there c.args.mode c.args.unit c.args.name.now old.files new.files c.in-Ok-take_file.taken.length
+    (c.in-Ok-take_file.ensures.said tells) (c.in-Ok-take_file.ensures.files tells) in
+    let attached : attachments_of c.put.new.self.slots ≡ with_attachment (attachments_of c.args.self.now.slots) c.args.unit (Some a) = search rules in
+    let copy : Buffer = record { bytes = c.in-Ok-take_file.taken.copy.bytes.items; written = false } in
+    let within = c.put.ensures.within in
+    step-attached c.args.unit a c.args.self.now c.put.new.self new.files c.requires.unit is (omega (arith, within)) attached
+    (ap (λ (d : Buffer). d.bytes) (c.put.ensures.disk ∙ ap (λ (b : Bool). if b then copy else c.args.self.now.disk) is)
+    ∙ c.in-Ok-take_file.ensures.bytes tells is)
+    (c.put.ensures.marks ∙ ap (λ (b : Bool). if b then no_marks else c.args.self.now.marks) is) there
 
 pub returns-in-Ok-take_file-clause-from : goal.returns-in-Ok-take_file-clause-from
 returns-in-Ok-take_file-clause-from g c =

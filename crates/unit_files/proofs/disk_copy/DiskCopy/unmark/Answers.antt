@@ -1,6 +1,6 @@
 use Rattle.std.proofs.Common.{false, length, replicate, refl, ap, ◌∙◌}
 use Rattle.std.proofs.lemmas.List.{length-replicate}
-use Rattle.unit_files.specs.Buffer.{disk_pages}
+use Rattle.unit_files.specs.Pages.{disk_pages}
 use Rattle.unit_files.proofs.Marks.{marks-all}
 use Rattle.unit_files.proofs.disk_copy.DiskCopy.unmark.Goals as goal
 

@@ -1,5 +1,7 @@
 use Rattle.std.proofs.Common.{◌≡◌, ◌*◌, List, Bool, ℕ, length, min, ap, sym, ◌∙◌, arith, rules}
-use Rattle.unit_files.specs.Buffer.{sector_bytes, page_of, marked, with_marks}
+use Rattle.unit_files.specs.Pages.{page_of, marked}
+use Rattle.unit_files.specs.InStep.{with_marks}
+use Rattle.unit_files.specs.Buffer.{sector_bytes}
 use Rattle.unit_files.proofs.Copies.{sector-short}
 use Rattle.unit_files.proofs.Marks.{marks-all, sector-marks-long}
 use Rattle.unit_files.proofs.disk_copy.DiskCopy.write.Goals as goal
