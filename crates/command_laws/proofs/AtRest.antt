@@ -175,7 +175,7 @@ idle-lines (line ∷ lines) all nobody = (idle-line line all.0 nobody.0, idle-li
 
 erased-same : (m : MachineState) → IsProgramMachine m → erased m ≡ m
 erased-same m is =
-    ap (λ (slots : List (Option Held)). record m { slots = slots; lines = [] }) is.numbers ∙ ap (λ (lines : List (LineOf ℕ)). record m { lines = lines }) (sym is.lines)
+    λ i. record m { slots = is.numbers i; marks = sym is.marks i; lines = sym is.lines i }
 
 widths : (s : Live) (files : List NamedBytes) → ValidLive s → AllByRecursion FitsPart (saved_files files (attached_in s.machine) file_places) → HasWidths (saved_among files s)
 unfolding saved_machine saved_watch
@@ -208,7 +208,6 @@ savable s files rest all =
         seen = erased-same s.machine is.machine;
         copy = rest.copy;
         written = rest.written;
-        unmarked = valid.machine.unmarked rest.written;
         watch = rest.watch;
         line = is.line;
         idle = idle-lines s.lines valid.lines rest.nobody;

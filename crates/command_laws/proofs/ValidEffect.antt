@@ -6,9 +6,9 @@ use Rattle.observations.specs.Observations.{Prints, map_made}
 use Rattle.observations.proofs.MadeLemmas.{stands-either, stands-mapped}
 use Rattle.file_traits.specs.Lists.{NamedBytes, bytes_of}
 use Rattle.unit_trait.specs.declared.kind.UnitName.{UnitName}
-use Rattle.unit_files.specs.Attachments.{Attachment, Held, attachment_at, with_attachment}
-use Rattle.unit_files.specs.Buffer.{Buffer, no_marks, no_buffer, disk_unit}
-use Rattle.unit_files.specs.Acts.{Failure, AttachSaid, Attached, UnitHasFile, OnlyWrites, NotThere, TooLong, CallFailed, attach_said, attach_files, is_read_only, DetachSaid, HadNone, StillHeld, Detached, detach_said, detached}
+use Rattle.unit_files.specs.Attachments.{Attachment, Held, attachments_of, attachment_at, with_attachment}
+use Rattle.unit_files.specs.Buffer.{Buffer, no_buffer, disk_unit}
+use Rattle.unit_files.specs.Acts.{Failure, AttachSaid, Attached, UnitHasFile, OnlyWrites, NotThere, TooLong, CallFailed, attach_said, attach_files, is_read_only, FlushSaid, HasNone, NotFlushed, Flushed, buffer_flushed, DetachSaid, HadNone, StillHeld, Detached, detach_said, detached}
 use Rattle.file_commands.specs.declared.note.Subject.TheVariants as subject
 use Rattle.file_commands.specs.Notes.{CommandNote, failure_now}
 use Rattle.file_commands.specs.AllUnits.{attachable, Emptied}
@@ -29,7 +29,7 @@ use Rattle.unit_files.specs.Attachments.{no_attachments}
 use Rattle.nova_machine.specs.Seen.{unnumbered, attached_in}
 use Rattle.nova_machine.specs.Run.{run, last_time}
 use Rattle.std.specs.List.{AllByRecursion}
-use Rattle.nova_machine.specs.Valid.{AreBytes, IsByteName, AreShortActions, ValidExpect, ValidMachine, ValidWatch, IsPort, ValidLine, ValidAhead, Valid, CopyIsFile, DiskIsItsFile}
+use Rattle.nova_machine.specs.Valid.{AreBytes, IsByteName, AreShortActions, ValidExpect, ValidMachine, ValidWatch, IsPort, ValidLine, ValidAhead, Valid, CopyIsFile, DiskIsItsFile, KeepsFile}
 use Rattle.machine_laws.specs.ValidLaws.{StaysAs}
 use Rattle.machine_laws.proofs.StayingValid.{runs-stay-valid}
 use Rattle.nova_machine.specs.declared.machine.Stop.{Stop}
@@ -40,7 +40,7 @@ use Rattle.saved_session.specs.Parts.{State}
 use Rattle.state_transfer.specs.PutBack.{machine_from, lines_from, put_back}
 use Rattle.state_text.specs.Reading.{reading}
 use Rattle.saved_files.specs.Restoring.{FileRefusal, with_all, at_unit}
-use Rattle.saved_files.specs.Saving.{first_unsaved, files_flushed, copy_flushed}
+use Rattle.saved_files.specs.Saving.{first_unsaved, disk_flushed, files_flushed, copy_flushed}
 use Rattle.state_transfer.specs.Session.{saved}
 use Rattle.state_text.specs.Text.{text}
 use Rattle.state_text.proofs.FitLaws.{texts-are-read}
@@ -84,16 +84,16 @@ use Rattle.command_session.specs.TapeEffects.{tape_in, tape_answer, loaded_machi
 use Rattle.scp_commands.specs.Effect.{effect}
 use Rattle.command_session.specs.Nature.{nature}
 use Rattle.command_session.specs.Doing.{Does}
-use Rattle.command_session.specs.Remains.{flushed_machine, flushed, MachineRemains, Remains}
-use Rattle.command_laws.specs.Valid.{IsProgramMachine, ValidLive, GivesBytes, CopyFollows, IsValidReply, CommandsKeepStates}
+use Rattle.command_session.specs.Remains.{flushed_machine, flushed, Remains}
+use Rattle.command_laws.specs.Valid.{IsProgramMachine, ValidLive, GivesBytes, IsValidReply, CommandsKeepStates}
 use Rattle.host_commands.proofs.FileKinds.{positioned-kinds}
 use Rattle.command_session.proofs.SeenLemmas.{attached-with}
 use Rattle.command_session.proofs.CloseLemmas.{none-other}
-use Rattle.state_commands.proofs.SaveLemmas.{copy-left}
 use Rattle.command_laws.proofs.ValidWatch.{quoted-bytes, break-added, break-removed, breaks-removed, expect-added, expects-removed, sends-added, sends-removed}
 use Rattle.command_laws.proofs.ValidMachines.{sized-valid, reset-valid, reset-leaves, started-valid, started-leaves, GivesWhole, whole-bytes, loaded-valid, loaded-leaves, written-files}
+use Rattle.command_laws.proofs.ValidMachines.{deposited-marks, reset-marks, started-marks, loaded-marks}
 use Rattle.command_laws.proofs.ValidFiles.{Fits, attached-files, flushed-files, attached-fits, attached-valid, detached-valid, filed-valid, names-seen, IsFiled, emptied-filed}
-use Rattle.command_laws.proofs.ValidCopies.{copy-same, copy-from, follows-from, copy-written, copy-new, copy-gone, copy-attached, copy-detached, copy-emptied}
+use Rattle.command_laws.proofs.ValidCopies.{HoldsAt, HoldsNone, holds-same, holds-copy, holds-flushed, holds-attached, holds-detached, holds-emptied, copy-tested, copy-new, copy-gone}
 
 attached-count : (m : MachineState) → length (attached_in m) ≡ length m.slots
 attached-count m = length-map m.slots (λ slot. option_map (λ (h : Held). h.attachment) slot)
@@ -102,21 +102,18 @@ numberless-count : (m : MachineState) → length (numberless (attached_in m)) �
 numberless-count m = length-map (attached_in m) (λ slot. option_map (λ (a : Attachment). record { file = 0; attachment = a }) slot) ∙ attached-count m
 
 -- what holds of a reply to a command that was given in that state
-pub record StandsBy (flushes : Bool) (live : Live) (reply : Reply) : Type 0 where
+pub record Stands (live : Live) (reply : Reply) : Type 0 where
   pub valid : IsValidReply reply
-  pub copy : CopyFollows flushes live reply.after.live
-
--- the same of one that flushes nothing before its work
-abbrev pub Stands : Live → Reply → Type 0
-Stands live reply = StandsBy false live reply
+  pub holds : HoldsNone live.machine → HoldsNone reply.after.live.machine
 
 -- ---- states
 
 -- a machine with the same kinds of units, and one of this program where what is attached to it and its lines are the same
-program-machine : (m m' : MachineState) → IsProgramMachine m → kinds_of m'.units ≡ kinds_of m.units → m'.slots ≡ m.slots → m'.lines ≡ m.lines → IsProgramMachine m'
-program-machine m m' is kinds slots lines = record {
+program-machine : (m m' : MachineState) → IsProgramMachine m → kinds_of m'.units ≡ kinds_of m.units → m'.slots ≡ m.slots → m'.marks ≡ m.marks → m'.lines ≡ m.lines → IsProgramMachine m'
+program-machine m m' is kinds slots marks lines = record {
   units = kinds ∙ is.units;
   numbers = ap (λ (l : List (Option Held)). map unnumbered l) slots ∙ is.numbers ∙ sym slots;
+  marks = marks ∙ is.marks;
   lines = lines ∙ is.lines;
 }
 
@@ -126,11 +123,12 @@ numberless-numbers [] = refl
 numberless-numbers (None ∷ attached) = ap (λ (l : List (Option Held)). None ∷ l) (numberless-numbers attached)
 numberless-numbers (Some a ∷ attached) = ap (λ (l : List (Option Held)). Some (record { file = 0; attachment = a }) ∷ l) (numberless-numbers attached)
 
-program-filed : (m m' : MachineState) (attached : List (Option Attachment)) → IsProgramMachine m → kinds_of m'.units ≡ kinds_of m.units → m'.slots ≡ numberless attached → m'.lines ≡ m.lines
+program-filed : (m m' : MachineState) (attached : List (Option Attachment)) → IsProgramMachine m → kinds_of m'.units ≡ kinds_of m.units → m'.slots ≡ numberless attached → m'.marks ≡ m.marks → m'.lines ≡ m.lines
     → IsProgramMachine m'
-program-filed m m' attached is kinds slots lines = record {
+program-filed m m' attached is kinds slots marks lines = record {
   units = kinds ∙ is.units;
   numbers = ap (λ (l : List (Option Held)). map unnumbered l) slots ∙ numberless-numbers attached ∙ sym slots;
+  marks = marks ∙ is.marks;
   lines = lines ∙ is.lines;
 }
 
@@ -153,9 +151,9 @@ changed-live live m w files is machine taken time own watch all = record {
   line = is.line;
 }
 
-machine-live : (live : Live) (m : MachineState) → ValidLive live → ValidMachine m → LeavesRest live.machine m → ValidLive (with_machine live m)
-machine-live live m is machine rest =
-    changed-live live m live.watch live.files is machine rest.taken rest.time (program-machine live.machine m is.machine rest.kinds rest.slots rest.lines) is.valid.watch is.valid.files
+machine-live : (live : Live) (m : MachineState) → ValidLive live → ValidMachine m → LeavesRest live.machine m → m.marks ≡ live.machine.marks → ValidLive (with_machine live m)
+machine-live live m is machine rest marks =
+    changed-live live m live.watch live.files is machine rest.taken rest.time (program-machine live.machine m is.machine rest.kinds rest.slots marks rest.lines) is.valid.watch is.valid.files
 
 pub watch-live : (live : Live) (w : WatchState) → ValidLive live → ValidWatch w → ValidLive (record live { watch = w })
 watch-live live w is watch = changed-live live live.machine w live.files is is.valid.machine refl refl is.machine watch is.valid.files
@@ -172,7 +170,6 @@ flushed-machine m is = record {
   places = is.places;
   names = is.names;
   disk = is.disk;
-  unmarked = λ none. refl;
 }
 
 -- ---- replies
@@ -264,7 +261,7 @@ stands-if true live x y first second = first refl
 stands-if false live x y first second = second refl
 
 stands-goes : (before live : Live) → ValidLive live → live.machine.slots ≡ before.machine.slots → live.machine.disk ≡ before.machine.disk → Stands before (goes live)
-stands-goes before live is slots disk = record { valid = record { after = is; made = λ at h. absurd h; script = tt }; copy = copy-same before live slots disk }
+stands-goes before live is slots disk = record { valid = record { after = is; made = λ at h. absurd h; script = tt }; holds = holds-same before.machine live.machine slots disk }
 
 stands-says : (text : List ℕ) (live : Live) → ValidLive live → Stands live (says text live)
 stands-says text live is = record {
@@ -273,22 +270,22 @@ stands-says text live is = record {
     made = λ at h. elim h [ inl same ↦ subst (λ (s : Standing). ValidLive s.live) (sym same) is | inr none ↦ absurd none ];
     script = tt;
   };
-  copy = copy-same live live refl refl;
+  holds = λ is. is;
 }
 
 pub stands-refused : (fault : CommandFault) (live : Live) → ValidLive live → Stands live (refused fault live)
-stands-refused fault live is = record { valid = record { after = is; made = λ at h. absurd h; script = tt }; copy = copy-same live live refl refl }
+stands-refused fault live is = record { valid = record { after = is; made = λ at h. absurd h; script = tt }; holds = λ is. is }
 
 -- nothing is printed and nothing changes
 stands-answers : (answer : Answer) (used : ℕ) (live : Live) → ValidLive live → GivesBytes answer → Stands live (record { made = []; answer = answer; after = standing used live })
-stands-answers answer used live is gives = record { valid = record { after = is; made = λ at h. absurd h; script = gives }; copy = copy-same live live refl refl }
+stands-answers answer used live is gives = record { valid = record { after = is; made = λ at h. absurd h; script = gives }; holds = λ is. is }
 
 -- only files change
 stands-files : (answer : Answer) (used : ℕ) (live : Live) (files : List NamedBytes) → ValidLive live → AreFiles files → GivesBytes answer
     → Stands live (record { made = []; answer = answer; after = standing used (record live { files = files }) })
 stands-files answer used live files is all gives = record {
   valid = record { after = changed-live live live.machine live.watch files is is.valid.machine refl refl is.machine is.valid.watch all; made = λ at h. absurd h; script = gives };
-  copy = copy-same live (record live { files = files }) refl refl;
+  holds = λ is. is;
 }
 
 -- ---- runs
@@ -317,16 +314,21 @@ stands-ran notes step count live is =
         ];
         script = run_answer-gives p.stop;
       };
-      copy = λ copy follows.
+      holds = λ holds none.
           let keeps = runs-stay-valid.run_copy note step count live is.valid in
-          (keeps.copy copy).1 (λ none. (follows none).clean (ap (λ (d : Buffer). d.written) (sym (keeps.written none)) ∙ none));
+          let was : attachment_at (attached_in live.machine) disk_unit ≡ None =
+          ap (λ (s : List (Option Held)). attachment_at (attachments_of s) disk_unit) (sym shape.after.slots) ∙ none in
+          let copy : DiskIsItsFile live = subst (λ (o : Option Attachment). CopyIsFile o live.machine.disk live.files) (sym was) (holds was) in
+          let left : DiskIsItsFile p.after =
+          (keeps.copy copy).1 (λ unwritten. subst (λ (o : Option Attachment). KeepsFile o live.files p.after.files) (sym was) tt) in
+          holds-copy p.after left none;
     }
   where
     shaped : (s t : Live) → ValidLive s → Valid t → t.machine.time ≤ last_time → StaysAs s t → ValidLive t
     shaped s t is valid time shape = record {
       valid = valid;
       time = time;
-      machine = program-machine s.machine t.machine is.machine shape.kinds shape.slots shape.own;
+      machine = program-machine s.machine t.machine is.machine shape.kinds shape.slots shape.marks shape.own;
       line = shape.count ∙ is.line;
     }
 
@@ -334,8 +336,7 @@ stands-ran notes step count live is =
 stands-from : (live : Live) (m : MachineState) (reply : Reply) → LeavesRest live.machine m → Stands (with_machine live m) reply → Stands live reply
 stands-from live m reply rest stands = record {
   valid = stands.valid;
-  copy = λ is follows.
-      stands.copy (copy-from live m rest.slots rest.disk is) (λ none. follows-from live reply.after.live m rest.slots rest.disk (follows none));
+  holds = λ is. stands.holds (holds-same live.machine m rest.slots rest.disk is);
 }
 
 stands-run_from : (limit : ℕ) (notes : List CommandNote) (resets : Bool) (address : Option ℕ) (live : Live) → ValidLive live → Stands live (run_from limit notes resets address live)
@@ -346,7 +347,7 @@ stands-run_from limit notes resets address live is =
     let rest = started-leaves resets address live.machine in
     let start = started resets address live in
     stands-from live start.machine _ rest
-    (stands-ran notes false limit start (machine-live live start.machine is (started-valid resets address live.machine fits is.valid.machine) rest)))
+    (stands-ran notes false limit start (machine-live live start.machine is (started-valid resets address live.machine fits is.valid.machine) rest (started-marks resets address live.machine))))
     (λ _. stands-refused _ live is)
 
 stands-step_of : (limit : ℕ) (notes : List CommandNote) (count : ℕ) (live : Live) → ValidLive live → Stands live (step_of limit notes count live)
@@ -358,7 +359,7 @@ stands-reset : (live : Live) → ValidLive live → Stands live (reset_reply liv
 unfolding reset_reply
 stands-reset live is =
     let rest = reset-leaves live.machine in
-    stands-goes live (with_machine live (reset_machine live.machine)) (machine-live live (reset_machine live.machine) is (reset-valid live.machine is.valid.machine) rest) rest.slots rest.disk
+    stands-goes live (with_machine live (reset_machine live.machine)) (machine-live live (reset_machine live.machine) is (reset-valid live.machine is.valid.machine) rest (reset-marks live.machine)) rest.slots rest.disk
 
 -- ---- lists
 
@@ -376,7 +377,7 @@ stands-deposit_after (Some fault) live l value none is = stands-refused _ live i
 stands-deposit_after None live l value none is =
     let m = deposited live.machine l value in
     let rest = deposited-leaves live.machine l value in
-    stands-goes live (with_machine live m) (machine-live live m is (deposited-valid live.machine l value is.valid.machine none) rest) rest.slots rest.disk
+    stands-goes live (with_machine live m) (machine-live live m is (deposited-valid live.machine l value is.valid.machine none) rest (deposited-marks live.machine l value)) rest.slots rest.disk
 
 stands-deposit : (live : Live) (l : Listing) (value : ℕ) → ValidLive live → Stands live (deposit_reply live l value)
 unfolding deposit_reply
@@ -413,14 +414,14 @@ stands-attach_with fault option unit name live drive named is =
           valid = record {
             after = changed-live live m live.watch files is
                 (attached-valid (Attached count) (mode_of option) unit name (bytes_of files name) live.machine drive fits named (files-found files name all) is.valid.machine) refl refl
-                (program-filed live.machine m (with_attachment (attached_in live.machine) unit (Some a)) is.machine (positioned-kinds unit (first_place unit.kind count) live.machine.units) refl refl)
+                (program-filed live.machine m (with_attachment (attached_in live.machine) unit (Some a)) is.machine (positioned-kinds unit (first_place unit.kind count) live.machine.units) refl refl refl)
                 is.valid.watch all;
             made = λ at h. absurd h;
             script = tt;
           };
-          copy = λ copy follows.
-              subst (λ (l : List (Option Attachment)). CopyIsFile (attachment_at l disk_unit) m.disk files) (sym (attached-with live.machine (with_attachment (attached_in live.machine) unit (Some a))))
-              (copy-attached unit count a (attached_in live.machine) live.machine.disk live.files files drive some copy (λ none. (follows none).clean));
+          holds = λ is_none.
+              subst (λ (l : List (Option Attachment)). HoldsAt l m.disk) (sym (attached-with live.machine (with_attachment (attached_in live.machine) unit (Some a))))
+              (holds-attached unit count a (bytes_of files name) (attached_in live.machine) live.machine.disk drive some is_none);
         }
     by-said UnitHasFile fits = kept _ _ tt
     by-said OnlyWrites fits = kept _ _ tt
@@ -457,13 +458,13 @@ stands-detach_with fault unit live drive is = by-said (detach_said fault unit (a
         record {
           valid = record {
             after = changed-live live m live.watch files is (detached-valid (Detached failure) unit live.machine is.valid.machine) refl refl
-                (program-filed live.machine m (detached unit (attached_in live.machine)) is.machine refl refl refl) is.valid.watch all;
+                (program-filed live.machine m (detached unit (attached_in live.machine)) is.machine refl refl refl refl) is.valid.watch all;
             made = λ at h. absurd h;
             script = tt;
           };
-          copy = λ copy follows.
-              subst (λ (l : List (Option Attachment)). CopyIsFile (attachment_at l disk_unit) m.disk files) (sym (attached-with live.machine (detached unit (attached_in live.machine))))
-              (copy-detached unit failure (attached_in live.machine) live.machine.disk live.files files drive some copy (λ none clean other. (follows none).clean clean));
+          holds = λ is_none.
+              subst (λ (l : List (Option Attachment)). HoldsAt l m.disk) (sym (attached-with live.machine (detached unit (attached_in live.machine))))
+              (holds-detached unit failure (attached_in live.machine) live.machine.disk is_none);
         }
 
 stands-detach : (notes : List CommandNote) (live : Live) (unit : UnitName) → IsDrive unit → ValidLive live → Stands live (detach_reply notes live unit)
@@ -489,7 +490,7 @@ stands-listen_with said port live low valid is = by said.answer
     })
     by Failed = record {
       valid = record { after = ahead-live live said.ahead is valid; made = λ at h. absurd h; script = tt };
-      copy = copy-same live (record live { ahead = said.ahead }) refl refl;
+      holds = λ is. is;
     }
     by other = record {
       valid = record {
@@ -498,7 +499,7 @@ stands-listen_with said port live low valid is = by said.answer
         made = λ at h. absurd h;
         script = tt;
       };
-      copy = copy-same live (record live { lines = ported (Some port) live.lines; ahead = said.ahead }) refl refl;
+      holds = λ is. is;
     }
 
 stands-attach_port : (live : Live) (port : ℕ) → ValidLive live → Stands live (attach_port_reply live port)
@@ -530,7 +531,7 @@ stands-disconnect live is = stands-with_port (terminal_line live.lines) (hung_up
 
 -- all units lose their files, and then that comes
 filed-live : (live : Live) → ValidLive live → IsFiled (filed_in live)
-filed-live live is = record { places = numberless-count live.machine ∙ is.valid.machine.places; names = names-seen live.machine.slots is.valid.machine.names; disk = is.valid.machine.disk; unmarked = is.valid.machine.unmarked; files = is.valid.files }
+filed-live live is = record { places = numberless-count live.machine ∙ is.valid.machine.places; names = names-seen live.machine.slots is.valid.machine.names; disk = is.valid.machine.disk; files = is.valid.files }
 
 pub stands-emptied : (next : Next) (notes : List CommandNote) (live : Live) → GivesBytes (Ok next) → ValidLive live → Stands live (emptied_reply next (emptied_all notes live) live)
 stands-emptied next notes live gives is = by-keeper e.kept refl
@@ -550,15 +551,15 @@ stands-emptied next notes live gives is = by-keeper e.kept refl
           valid = record {
             after =
                 lined-live (left_by None e.left live) (unported live.lines)
-                (changed-live live m live.watch e.left.files is (filed-valid live.machine e.left.attached e.left.disk is.valid.machine filed.places filed.names filed.disk filed.unmarked) refl refl
-                (program-filed live.machine m e.left.attached is.machine refl refl refl) is.valid.watch filed.files)
+                (changed-live live m live.watch e.left.files is (filed-valid live.machine e.left.attached e.left.disk is.valid.machine filed.places filed.names filed.disk) refl refl
+                (program-filed live.machine m e.left.attached is.machine refl refl refl refl) is.valid.watch filed.files)
                 (valid-unported live.lines is.valid.lines) (many-unported live.lines);
             made = λ at h. absurd h;
             script = gives;
           };
-          copy = λ copy follows.
-              subst (λ (l : List (Option Attachment)). CopyIsFile (attachment_at l disk_unit) e.left.disk e.left.files) (sym (attached-with live.machine e.left.attached))
-              (copy-emptied live.machine.time _ (filed_in live) notes none-other some copy kept);
+          holds = λ is_none.
+              subst (λ (l : List (Option Attachment)). HoldsAt l e.left.disk) (sym (attached-with live.machine e.left.attached))
+              (holds-emptied live.machine.time _ (filed_in live) notes none-other some is_none kept);
         }
 
 stands-detach_where : (notes : List CommandNote) (live : Live) (unit : Option UnitName) → IsKept (request.Detach unit) → ValidLive live → Stands live (detach_one_or_all notes live unit)
@@ -635,7 +636,7 @@ stands-set_size : (live : Live) (k : ℕ) → ValidLive live → Stands live (se
 unfolding set_size_reply
 stands-set_size live k is =
     stands-if (fits_size k) live _ _
-    (λ fits. stands-goes live _ (machine-live live (sized live.machine k) is (sized-valid live.machine k is.valid.machine fits) (record { time = refl; taken = refl; kinds = refl; slots = refl; disk = refl; lines = refl })) refl refl)
+    (λ fits. stands-goes live _ (machine-live live (sized live.machine k) is (sized-valid live.machine k is.valid.machine fits) (record { time = refl; taken = refl; kinds = refl; slots = refl; disk = refl; lines = refl }) refl) refl refl)
     (λ _. stands-refused _ live is)
 
 stands-show : (live : Live) (subject : Shown) → ValidLive live → Stands live (show_reply live subject)
@@ -710,11 +711,11 @@ stands-load notes live name is =
     let gives = whole-bytes (whole_calls subject.Load live.machine.time notes) name live.files is.valid.files in
     record {
       valid = record {
-        after = machine-live live m is (loaded-valid read.0 live.machine gives is.valid.machine) rest;
+        after = machine-live live m is (loaded-valid read.0 live.machine gives is.valid.machine) rest (loaded-marks read.0 live.machine);
         made = λ at h. absurd h;
         script = gives-load live.machine read.0;
       };
-      copy = copy-same live (with_machine live m) rest.slots rest.disk;
+      holds = holds-same live.machine m rest.slots rest.disk;
     }
 
 gives-written : (said : WriteSaid) → GivesBytes (dump_answer said)
@@ -737,23 +738,23 @@ stands-dump notes live from to name is =
 -- ---- SAVE
 
 -- what the disk holds was written back, or is as it was
-left-machine : (flushes : Bool) (m m' : MachineState) → ValidMachine m → MachineRemains flushes m m' → ValidMachine m'
-left-machine false m m' is same = subst ValidMachine (sym same) is
-left-machine true m m' is (inl same) = subst ValidMachine (sym same) is
-left-machine true m m' is (inr same) = subst ValidMachine (sym same) (flushed-machine m is)
+left-machine : (said : FlushSaid) (m : MachineState) → ValidMachine m → ValidMachine (record m { disk = buffer_flushed said disk_unit m.disk })
+left-machine HasNone m is = is
+left-machine (NotFlushed f) m is = is
+left-machine Flushed m is = flushed-machine m is
 
 flushed-with : (claim : Option (UnitName × Failure)) (live : Live) → ValidLive live → ValidLive (flushed_with claim live)
 flushed-with claim live is =
     let m = live.machine in
     let attached = attached_in m in
     changed-live live (record m { disk = copy_flushed claim attached m.disk }) live.watch (files_flushed claim attached m.disk live.files) is
-    (left-machine true m (record m { disk = copy_flushed claim attached m.disk }) is.valid.machine (copy-left claim m)) refl refl
-    (program-machine m (record m { disk = copy_flushed claim attached m.disk }) is.machine refl refl refl) is.valid.watch
+    (left-machine (disk_flushed claim attached m.disk) m is.valid.machine) refl refl
+    (program-machine m (record m { disk = copy_flushed claim attached m.disk }) is.machine refl refl refl refl) is.valid.watch
     (flushed-files (at_unit disk_unit claim) disk_unit (attachment_at attached disk_unit) m.disk live.files is.valid.machine.disk is.valid.files)
 
 -- and then other files came
 stands-flushed : (claim : Option (UnitName × Failure)) (answer : Answer) (used : ℕ) (live : Live) (files : List NamedBytes) → ValidLive live → AreFiles files → GivesBytes answer
-    → StandsBy true live (record { made = []; answer = answer; after = standing used (record (flushed_with claim live) { files = files }) })
+    → Stands live (record { made = []; answer = answer; after = standing used (record (flushed_with claim live) { files = files }) })
 stands-flushed claim answer used live files is all gives =
     let flushed = flushed_with claim live in
     let there = flushed-with claim live is in
@@ -763,16 +764,14 @@ stands-flushed claim answer used live files is all gives =
         made = λ at h. absurd h;
         script = gives;
       };
-      copy = λ copy follows.
-          copy-written (at_unit disk_unit claim) (attachment_at (attached_in live.machine) disk_unit) live.machine.disk live.files files copy
-          (λ none. (follows none).clean) (λ none. (follows none).back refl);
+      holds = holds-flushed (at_unit disk_unit claim) (attached_in live.machine) live.machine.disk;
     }
 
 gives-saved : (said : WriteSaid) → GivesBytes (wrote_answer subject.State said)
 gives-saved AllWritten = tt
 gives-saved WriteFailed = tt
 
-stands-save : (notes : List CommandNote) (live : Live) (name : List ℕ) → ValidLive live → StandsBy true live (save_reply notes live name)
+stands-save : (notes : List CommandNote) (live : Live) (name : List ℕ) → ValidLive live → Stands live (save_reply notes live name)
 unfolding save_reply
 stands-save notes live name is = by-claim (first_unsaved claim (attached_in live.machine) live.machine.disk live.files)
   where
@@ -785,7 +784,7 @@ stands-save notes live name is = by-claim (first_unsaved claim (attached_in live
     there : ValidLive flushed
     there = flushed-with claim live is
 
-    by-claim : (o : Option (UnitName × Failure)) → StandsBy true live (save_by o notes name flushed)
+    by-claim : (o : Option (UnitName × Failure)) → Stands live (save_by o notes name flushed)
     by-claim (Some call) = stands-flushed claim (Err (FileFailed (subject.Unit call.0))) 1 live flushed.files is there.valid.files tt
     by-claim None =
         let calls = write_calls subject.State flushed.machine.time notes in
@@ -815,6 +814,7 @@ put-back bytes s live all read is =
       machine = record {
         units = put-back-is-valid.units s live valid;
         numbers = numberless-numbers (with_all no_attachments s.files);
+        marks = refl;
         lines = refl;
       };
       line = many-from s.port live.lines ∙ is.line;
@@ -825,7 +825,7 @@ stands-put_back : (used : ℕ) (s : State) (live : Live) (answer : Answer) (ahea
     → Stands live (record { made = []; answer = answer; after = standing used (record (put_back s live) { ahead = ahead }) })
 stands-put_back used s live answer ahead valid gives back = record {
   valid = record { after = ahead-live (put_back s live) ahead back valid; made = λ at h. absurd h; script = gives };
-  copy = λ copy follows. put-back-is-valid.disk s live;
+  holds = λ is_none. holds-copy (put_back s live) (put-back-is-valid.disk s live);
 }
 
 stands-listened_back : (said : Replied) (used : ℕ) (s : State) (live : Live) → ValidAhead said.ahead → ValidLive (put_back s live) → ValidLive live → Stands live (listened_back said used s live)
@@ -838,7 +838,7 @@ stands-listened_back said used s live valid back is = by said.answer
     })
     by Failed = record {
       valid = record { after = ahead-live live said.ahead is valid; made = λ at h. absurd h; script = tt };
-      copy = copy-same live (record live { ahead = said.ahead }) refl refl;
+      holds = λ is. is;
     }
     by other = stands-put_back used s live (Ok Go) said.ahead valid tt back
 
@@ -871,7 +871,7 @@ stands-restore notes live force name is =
 
 -- ---- all commands
 
-pub stands-effect : (limit : ℕ) (notes : List CommandNote) (live : Live) (r : Request) → ValidLive live → IsKept r → IsOfBytes r → StandsBy (nature r).flushes live (effect limit notes live r)
+pub stands-effect : (limit : ℕ) (notes : List CommandNote) (live : Live) (r : Request) → ValidLive live → IsKept r → IsOfBytes r → Stands live (effect limit notes live r)
 unfolding effect
 stands-effect limit notes live request.Nothing is kept bytes = stands-goes live live is refl refl
 stands-effect limit notes live (request.Examine l) is kept bytes = stands-examine live l is
@@ -923,7 +923,7 @@ attach-anew notes live option name is done = by-lack (lacks_unit live.machine di
         → DiskIsItsFile (record live { machine = attached_machine said (mode_of option) disk_unit name (bytes_of files name) live.machine; files = files })
     by-said (Attached count) done =
         let a : Attachment = record { name = name; read_only = is_read_only (mode_of option) } in
-        subst (λ (l : List (Option Attachment)). CopyIsFile (attachment_at l disk_unit) (record { bytes = bytes_of files name; written = false; marks = no_marks }) files)
+        subst (λ (l : List (Option Attachment)). CopyIsFile (attachment_at l disk_unit) (record { bytes = bytes_of files name; written = false }) files)
         (sym (attached-with live.machine (with_attachment (attached_in live.machine) disk_unit (Some a)))) (copy-new a (attached_in live.machine) files (some-attached live is))
     by-said UnitHasFile done = absurd (cc)
     by-said OnlyWrites done = absurd (cc)
@@ -978,7 +978,7 @@ left-valid reply answer at tells before after is some does = subst (λ (s : Stan
 flushed-valid : (live : Live) → ValidLive live → ValidLive (flushed live)
 flushed-valid live is =
     changed-live live (flushed_machine live.machine) live.watch (flushed_files None disk_unit live) is (flushed-machine live.machine is.valid.machine)
-    refl refl (program-machine live.machine (flushed_machine live.machine) is.machine refl refl refl) is.valid.watch (flushed-files None disk_unit (attachment_at (attached_in live.machine) disk_unit) live.machine.disk live.files is.valid.machine.disk is.valid.files)
+    refl refl (program-machine live.machine (flushed_machine live.machine) is.machine refl refl refl refl) is.valid.watch (flushed-files None disk_unit (attachment_at (attached_in live.machine) disk_unit) live.machine.disk live.files is.valid.machine.disk is.valid.files)
 
 pub remains-valid : (flushes : Bool) (old new : Live) → ValidLive old → Remains flushes old new → ValidLive new
 remains-valid false old new is same = subst ValidLive (sym same) is
@@ -988,7 +988,8 @@ remains-valid true old new is (inr same) = subst ValidLive (sym same) (flushed-v
 pub commands-keep-states : CommandsKeepStates
 commands-keep-states = record {
   valid = λ limit notes live r is kept bytes. (stands-effect limit notes live r is kept bytes).valid;
-  disk = λ limit notes live r is kept bytes. (stands-effect limit notes live r is kept bytes).copy;
+  disk = λ limit notes live r is kept bytes.
+      copy-tested live (effect limit notes live r).after.live (stands-effect limit notes live r is kept bytes).holds;
   attached = attached-anew;
   detached = detached-anew;
   left = left-valid;

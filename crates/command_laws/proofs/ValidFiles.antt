@@ -16,9 +16,9 @@ use Rattle.file_traits.specs.declared.files.FileCall.TheVariants.{Opening, Lengt
 use Rattle.unit_files.specs.declared.modes.AttachMode.{AttachMode}
 use Rattle.unit_files.specs.declared.modes.AttachMode.TheVariants.{Any, MustExist, New, ReadOnly}
 use Rattle.unit_files.specs.Attachments.{Attachment, Held, attachments_of, attachment_at, file_place, with_attachment, longest_file, is_disk, only_writes}
-use Rattle.unit_files.specs.Buffer.{Buffer, page_bytes, no_marks, no_buffer}
+use Rattle.unit_files.specs.Buffer.{Buffer, no_buffer}
 use Rattle.unit_files.specs.Acts.{Failure, failure_at, AttachSaid, Attached, UnitHasFile, OnlyWrites, NotThere, TooLong, CallFailed, is_read_only, refused_first, opened_files, reading_failure, read_whole, measured_as, opened_said, opening_said, said_unless, attach_said}
-use Rattle.unit_files.specs.Acts.{files_where, files_unless_opening, files_unless, attach_files, is_due_back, piece_of, written_page, written_pages, written_back, flush_files, DetachSaid, HadNone, StillHeld, Detached, detached, buffer_left}
+use Rattle.unit_files.specs.Acts.{files_where, files_unless_opening, files_unless, attach_files, is_due_back, written_over, written_back, flush_files, DetachSaid, HadNone, StillHeld, Detached, detached, buffer_left}
 use Rattle.file_commands.specs.Notes.{CommandNote, failure_now}
 use Rattle.file_commands.specs.declared.note.Subject.TheVariants as subject
 use Rattle.file_commands.specs.AllUnits.{Filed, Emptied, emptied_as, said_in, without_file, emptied}
@@ -26,7 +26,7 @@ use Rattle.nova_machine.specs.Machine.{MachineState}
 use Rattle.nova_machine.specs.Core.{AreListed}
 use Rattle.nova_machine.specs.Seen.{attached_in}
 use Rattle.nova_machine.specs.Valid.{AreBytes, IsByteName, HasByteName, ValidMachine}
-use Rattle.machine_laws.proofs.ValidBytes.{AreFiles, files-with, files-changed, bytes-take, bytes-drop, bytes-overwritten}
+use Rattle.machine_laws.proofs.ValidBytes.{AreFiles, files-with, files-changed, bytes-append, bytes-take, bytes-drop}
 use Rattle.nova_machine.proofs.Each.{every-set}
 use Rattle.scp_parser.specs.Command.{IsDrive}
 use Rattle.command_session.specs.Live.{numberless, with_attached}
@@ -66,18 +66,9 @@ attached-files fault mode unit name attached files all = by-refusal (refused_fir
     by-refusal (Some said) = all
     by-refusal None = by-opening (failure_at Opening fault)
 
-piece-bytes : (f : Option Failure) (bytes : List ℕ) → AreBytes bytes → AreBytes (piece_of f bytes)
-piece-bytes (Some f) bytes all = bytes-take f.done bytes all
-piece-bytes None bytes all = all
-
-page-bytes : (mark : Bool) (place : ℕ) (bytes old : List ℕ) → AreBytes bytes → AreBytes old → AreBytes (written_page mark place bytes old)
-page-bytes true place bytes old all is = bytes-overwritten old place (take page_bytes (drop place bytes)) is (bytes-take page_bytes (drop place bytes) (bytes-drop place bytes all))
-page-bytes false place bytes old all is = is
-
-pages-bytes : (marks : List Bool) (place : ℕ) (bytes old : List ℕ) → AreBytes bytes → AreBytes old → AreBytes (written_pages marks place bytes old)
-pages-bytes [] place bytes old all is = is
-pages-bytes (mark ∷ marks) place bytes old all is =
-    pages-bytes marks (place + page_bytes) bytes (written_page mark place bytes old) all (page-bytes mark place bytes old all is)
+over-bytes : (f : Option Failure) (bytes old : List ℕ) → AreBytes bytes → AreBytes old → AreBytes (written_over f bytes old)
+over-bytes (Some f) bytes old all is = bytes-append (take f.done bytes) (drop f.done old) (bytes-take f.done bytes all) (bytes-drop f.done old is)
+over-bytes None bytes old all is = all
 
 pub flushed-files : (fault : Option Failure) (unit : UnitName) (a : Option Attachment) (disk : Buffer) (files : List NamedBytes)
     → AreBytes disk.bytes → AreFiles files → AreFiles (flush_files fault unit a disk files)
@@ -88,7 +79,7 @@ flushed-files fault unit (Some a) disk files bytes all = by-due (is_due_back uni
     by-due : (b : Bool) → AreFiles (if b then changed files a.name (written_back fault disk) else files)
     by-due true =
         files-changed files a.name (written_back fault disk)
-        (λ old are. pages-bytes disk.marks 0 (piece_of (failure_at Write fault) disk.bytes) old (piece-bytes (failure_at Write fault) disk.bytes bytes) are) all
+        (λ old are. over-bytes (failure_at Write fault) disk.bytes old bytes are) all
     by-due false = all
 
 -- ---- how long a file is that becomes a unit's
@@ -208,17 +199,9 @@ attached-length m unit a =
     length-map attached (λ slot. option_map (λ (x : Attachment). record { file = 0; attachment = x }) slot)
     ∙ length-set (attached_in m) _ a ∙ length-map m.slots (λ slot. option_map (λ (h : Held). h.attachment) slot)
 
-buffer-bytes : (b : Bool) (bytes : List ℕ) (disk : Buffer) → AreBytes bytes → AreBytes disk.bytes → AreBytes (if b then record { bytes = bytes; written = false; marks = no_marks } else disk).bytes
+buffer-bytes : (b : Bool) (bytes : List ℕ) (disk : Buffer) → AreBytes bytes → AreBytes disk.bytes → AreBytes (if b then record { bytes = bytes; written = false } else disk).bytes
 buffer-bytes true bytes disk new old = new
 buffer-bytes false bytes disk new old = old
-
--- no page of a copy is marked of which nothing is to be written back
-abbrev pub IsUnmarked : Buffer → Type 0
-IsUnmarked disk = disk.written ≡ false → disk.marks ≡ no_marks
-
-buffer-unmarked : (b : Bool) (bytes : List ℕ) (disk : Buffer) → IsUnmarked disk → IsUnmarked (if b then record { bytes = bytes; written = false; marks = no_marks } else disk)
-buffer-unmarked true bytes disk is = λ none. refl
-buffer-unmarked false bytes disk is = is
 
 pub attached-valid : (said : AttachSaid) (mode : AttachMode) (unit : UnitName) (name bytes : List ℕ) (m : MachineState) → IsDrive unit → Fits unit said → IsByteName name → AreBytes bytes → ValidMachine m
     → ValidMachine (attached_machine said mode unit name bytes m)
@@ -239,7 +222,6 @@ attached-valid (Attached count) mode unit name bytes m drive low named new is = 
       let a : Attachment = record { name = name; read_only = is_read_only mode } in
       names-held (with_attachment (attached_in m) unit (Some a)) (names-with (attached_in m) unit (Some a) named (names-seen m.slots is.names));
   disk = buffer-bytes (is_disk unit.kind) bytes m.disk new is.disk;
-  unmarked = buffer-unmarked (is_disk unit.kind) bytes m.disk is.unmarked;
 }
 attached-valid UnitHasFile mode unit name bytes m drive low named new is = is
 attached-valid OnlyWrites mode unit name bytes m drive low named new is = is
@@ -249,8 +231,8 @@ attached-valid (CallFailed f) mode unit name bytes m drive low named new is = is
 
 -- other attachments and another copy
 pub filed-valid : (m : MachineState) (attached : List (Option Attachment)) (disk : Buffer) → ValidMachine m → length (numberless attached) ≡ 12 → AllByRecursion HasName attached
-    → AreBytes disk.bytes → IsUnmarked disk → ValidMachine (record (with_attached m attached) { disk = disk })
-filed-valid m attached disk is places names bytes unmarked = record {
+    → AreBytes disk.bytes → ValidMachine (record (with_attached m attached) { disk = disk })
+filed-valid m attached disk is places names bytes = record {
   memory = is.memory;
   size = is.size;
   cpu = is.cpu;
@@ -260,7 +242,6 @@ filed-valid m attached disk is places names bytes unmarked = record {
   places = places;
   names = names-held attached names;
   disk = bytes;
-  unmarked = unmarked;
 }
 
 left-bytes : (said : DetachSaid) (unit : UnitName) (disk : Buffer) → AreBytes disk.bytes → AreBytes (buffer_left said unit disk).bytes
@@ -272,21 +253,12 @@ left-bytes (Detached fault) unit disk bytes = by-disk (is_disk unit.kind)
     by-disk true = tt
     by-disk false = bytes
 
-left-unmarked : (said : DetachSaid) (unit : UnitName) (disk : Buffer) → IsUnmarked disk → IsUnmarked (buffer_left said unit disk)
-left-unmarked HadNone unit disk is = is
-left-unmarked (StillHeld f) unit disk is = is
-left-unmarked (Detached fault) unit disk is = by-disk (is_disk unit.kind)
-  where
-    by-disk : (b : Bool) → IsUnmarked (if b then no_buffer else disk)
-    by-disk true = λ none. refl
-    by-disk false = is
-
 pub detached-valid : (said : DetachSaid) (unit : UnitName) (m : MachineState) → ValidMachine m → ValidMachine (detached_machine said unit m)
 detached-valid HadNone unit m is = is
 detached-valid (StillHeld f) unit m is = is
 detached-valid (Detached fault) unit m is =
     filed-valid m (detached unit (attached_in m)) (buffer_left (Detached fault) unit m.disk) is (attached-length m unit None ∙ is.places)
-    (names-with (attached_in m) unit None tt (names-seen m.slots is.names)) (left-bytes (Detached fault) unit m.disk is.disk) (left-unmarked (Detached fault) unit m.disk is.unmarked)
+    (names-with (attached_in m) unit None tt (names-seen m.slots is.names)) (left-bytes (Detached fault) unit m.disk is.disk)
 
 -- ---- all units lose their files
 
@@ -295,7 +267,6 @@ pub record IsFiled (s : Filed) : Type 0 where
   pub places : length (numberless s.attached) ≡ 12
   pub names : AllByRecursion HasName s.attached
   pub disk : AreBytes s.disk.bytes
-  pub unmarked : IsUnmarked s.disk
   pub files : AreFiles s.files
 
 numberless-length : (attached : List (Option Attachment)) → length (numberless attached) ≡ length attached
@@ -306,7 +277,6 @@ without-filed fault u s is = record {
   places = numberless-length (detached u s.attached) ∙ length-set s.attached _ None ∙ sym (numberless-length s.attached) ∙ is.places;
   names = names-with s.attached u None tt is.names;
   disk = left-bytes (said_in fault u s) u s.disk is.disk;
-  unmarked = left-unmarked (said_in fault u s) u s.disk is.unmarked;
   files = flushed-files fault u (attachment_at s.attached u) s.disk s.files is.disk is.files;
 }
 
@@ -316,7 +286,7 @@ emptied-filed time [] s notes is = is
 emptied-filed time (u ∷ us) s notes is =
     let fault = failure_now time (subject.Unit u) notes in
     by-said (said_in fault u s) notes _ _
-    (record { places = is.places; names = is.names; disk = is.disk; unmarked = is.unmarked; files = flushed-files fault u (attachment_at s.attached u) s.disk s.files is.disk is.files })
+    (record { places = is.places; names = is.names; disk = is.disk; files = flushed-files fault u (attachment_at s.attached u) s.disk s.files is.disk is.files })
     (λ more. emptied-filed time us (without_file fault u s) more (without-filed fault u s is))
   where
     by-said : (said : DetachSaid) (notes : List CommandNote) (left : Filed) (rest : List CommandNote → Emptied) → IsFiled left → ((more : List CommandNote) → IsFiled (rest more).left)

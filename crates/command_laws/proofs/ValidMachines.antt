@@ -17,6 +17,13 @@ use Rattle.binary_load.proofs.RangeLemmas.{IsTapeInRange, tape-in_range, stored-
 use Rattle.nova_memory.specs.Memory.{MemoryState, IsMemory, IsSize, fits_size, resized}
 use Rattle.nova_machine.specs.Machine.{MachineState, reset_devices, reset_machine}
 use Rattle.nova_machine.specs.Turn.{with_memory}
+use Rattle.nova_machine.specs.Registers.{with_register}
+use Rattle.unit_trait.specs.declared.processor.CpuReg.{CpuReg}
+use Rattle.unit_trait.specs.declared.processor.CpuReg.TheVariants.{Ac0, Ac1, Ac2, Ac3, C, Pc, Ion, Hold, Mask, Sr, StopDev, Size}
+use Rattle.operand_forms.specs.declared.listing.Listing.{Listing}
+use Rattle.scp_examine.specs.Shape.{shape_of}
+use Rattle.scp_examine.specs.Places.{Place, Cell, Register, UnitRegister}
+use Rattle.scp_examine.specs.Effect.{with_value, filled, all_places, deposited}
 use Rattle.nova_machine.specs.Valid.{AreBytes, ValidMachine}
 use Rattle.machine_laws.proofs.ValidInstruction.{reset-keeps}
 use Rattle.machine_laws.proofs.ValidBytes.{AreFiles, bytes-take, files-with}
@@ -39,7 +46,6 @@ memory-valid m memory is new size = record {
   places = is.places;
   names = is.names;
   disk = is.disk;
-  unmarked = is.unmarked;
 }
 
 -- ---- SET CPU
@@ -181,3 +187,55 @@ unfolding write_act
 written-files [] name piece files bytes all = files-made [] name piece files bytes all
 written-files ((Opening, done) ∷ failing) name piece files bytes all = all
 written-files ((call, done) ∷ failing) name piece files bytes all = files-made ((call, done) ∷ failing) name piece files bytes all
+
+-- ---- the marks of the disk's pages stay
+
+value-marks : (m : MachineState) (place : Place) (v : ℕ) → (with_value v m place).marks ≡ m.marks
+value-marks m (Cell a) v = refl
+value-marks m (Register r) v = by-register r
+  where
+    by-register : (r : CpuReg) → (with_register m r v).marks ≡ m.marks
+    by-register Ac0 = refl
+    by-register Ac1 = refl
+    by-register Ac2 = refl
+    by-register Ac3 = refl
+    by-register C = refl
+    by-register Pc = refl
+    by-register Ion = refl
+    by-register Hold = refl
+    by-register Mask = refl
+    by-register Sr = refl
+    by-register StopDev = refl
+    by-register Size = refl
+value-marks m (UnitRegister kind i) v = refl
+
+filled-marks : (m : MachineState) (v : ℕ) (places : List Place) → (filled v m places).marks ≡ m.marks
+unfolding filled
+filled-marks m v [] = refl
+filled-marks m v (p ∷ more) = filled-marks (with_value v m p) v more ∙ value-marks m p v
+
+pub deposited-marks : (m : MachineState) (l : Listing) (v : ℕ) → (deposited m l v).marks ≡ m.marks
+unfolding deposited
+deposited-marks m l v = filled-marks m v (all_places (shape_of m) l.device l.items)
+
+pub reset-marks : (m : MachineState) → (reset_machine m).marks ≡ m.marks
+unfolding reset_machine reset_devices
+reset-marks m = refl
+
+starting-marks : (address : Option ℕ) (m : MachineState) → (starting_at address m).marks ≡ m.marks
+starting-marks None m = refl
+starting-marks (Some a) m = refl
+
+pub started-marks : (resets : Bool) (address : Option ℕ) (m : MachineState) → (starting_at address (reset_where resets m)).marks ≡ m.marks
+started-marks true address m = starting-marks address (reset_machine m) ∙ reset-marks m
+started-marks false address m = starting-marks address m
+
+tape-marks : (r : Result Tape LoadFault) (m : MachineState) → (tape_machine r m).marks ≡ m.marks
+tape-marks (Ok says) m = starting-marks says.start (with_memory m (put_all m.processor.memory says.stores))
+tape-marks (Err fault) m = refl
+
+pub loaded-marks : (said : WholeSaid) (m : MachineState) → (loaded_machine said m).marks ≡ m.marks
+loaded-marks (WholeIs bytes) m = tape-marks (tape_in m bytes) m
+loaded-marks NotThere m = refl
+loaded-marks TooLong m = refl
+loaded-marks CallFailed m = refl

@@ -20,6 +20,7 @@ use Rattle.unit_files.specs.Buffer.{AttachedFiles, Buffer, disk_unit}
 use Rattle.unit_files.specs.Acts.{Failure, same_call, failure_at, is_due_back, flushed_as, FlushSaid, flush_said}
 use Rattle.unit_files.specs.Acts.{flush_files, buffer_flushed}
 use Rattle.unit_files.specs.Answers.{failure_in}
+use Rattle.unit_files.specs.InStep.{marks_flushed}
 use Rattle.unit_files.specs.Digests.{DigestSaid, NothingToDigest, NotDigested, Digested, digest_read, digest_measured}
 use Rattle.unit_files.specs.Digests.{digest_flushed}
 use Rattle.unit_files.specs.Digests.{IsReadingCall}
@@ -30,7 +31,7 @@ use Rattle.saved_session.specs.Ranges.{kind_at}
 use Rattle.saved_files.specs.Restoring.{unit_of, attachment_of, at_unit}
 use Rattle.saved_files.specs.RestoringOne.{AreOfTwo, AreApart}
 use Rattle.saved_files.specs.Saving.{unit_at, file_places, flag_of, saved_at, saved_files, undigested, failing_first}
-use Rattle.saved_files.specs.Saving.{first_undigested, unless_unflushed, files_flushed, copy_flushed, first_unsaved}
+use Rattle.saved_files.specs.Saving.{first_undigested, unless_unflushed, disk_flushed, files_flushed, copy_flushed, first_unsaved}
 use Rattle.saved_files.specs.SavingOne.{unread_file, unread_at, unread_files, read_file, CanDigest, first_unread}
 use Rattle.saved_files.specs.SavingOne.{names_of, AreNamed, fault_claim, FlushSays}
 
@@ -267,6 +268,13 @@ pub reading-copy : (f : UnitFault) (attached : List (Option Attachment)) (disk :
     ≡ copy_flushed (fault_claim f) attached disk
 reading-copy f attached disk reading =
     ap (λ (s : FlushSaid). buffer_flushed s disk_unit disk)
+    (sym (same-flush (at_unit disk_unit (fault_claim f)) (attachment_at attached disk_unit) disk (no-write f reading)))
+
+pub reading-marks : (f : UnitFault) (attached : List (Option Attachment)) (disk : Buffer) (marks : List Bool) → IsReadingCall f
+    → marks_flushed (flush_said None disk_unit (attachment_at attached disk_unit) disk) disk_unit marks
+    ≡ marks_flushed (disk_flushed (fault_claim f) attached disk) disk_unit marks
+reading-marks f attached disk marks reading =
+    ap (λ (s : FlushSaid). marks_flushed s disk_unit marks)
     (sym (same-flush (at_unit disk_unit (fault_claim f)) (attachment_at attached disk_unit) disk (no-write f reading)))
 
 pub unread-unsaved : (f : UnitFault) (attached : List (Option Attachment)) (disk : Buffer) (files now : List NamedBytes)

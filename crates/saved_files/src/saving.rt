@@ -4,14 +4,14 @@ ghost use Rattle.std.specs.List.{AllByRecursion};
 ghost use Rattle.unit_files.specs.Acts.{flush_said, flush_files, buffer_flushed};
 ghost use Rattle.unit_files.specs.Attachments.{attachments_of, attachment_at, file_units};
 ghost use Rattle.unit_files.specs.Buffer.{disk_unit};
-ghost use Rattle.unit_files.specs.InStep.{InStep};
+ghost use Rattle.unit_files.specs.InStep.{InStep, marks_flushed};
 ghost use Rattle.unit_files.specs.Digests.{IsReadingCall};
 ghost use Rattle.unit_files.specs.Open.{AllOpen};
 ghost use Rattle.saved_session.specs.Parts.{file_in};
 ghost use Rattle.saved_files.specs.Restoring.{files_in, unit_of, IsUnitOf};
 ghost use Rattle.saved_files.specs.RestoringOne.{AreApart};
 ghost use Rattle.saved_files.specs.Saving.{unit_at, file_places, saved_files, first_unsaved, files_flushed};
-ghost use Rattle.saved_files.specs.Saving.{copy_flushed, save_claim, UnlessNoMemory, IfNoMemory, SaveCause};
+ghost use Rattle.saved_files.specs.Saving.{disk_flushed, copy_flushed, save_claim, UnlessNoMemory, IfNoMemory, SaveCause};
 ghost use Rattle.saved_files.specs.SavingOne.{unread_at, unread_files, AreNamed, names_of, CanDigest, Digests};
 ghost use Rattle.saved_files.specs.SavingOne.{UnitCause, failure_of_write, FlushSays, DigestsOne};
 
@@ -160,6 +160,8 @@ fn write_back<F: Files>(attached: &mut Attached, files: &mut F) -> Result<(), Un
     ensures slots { attached.new.slots ≡ attached.old.slots }
     ensures disk { attached.new.disk ≡ buffer_flushed (flush_said (failure_of_write result) disk_unit
         (attachment_at (attachments_of attached.old.slots) disk_unit) attached.old.disk) disk_unit attached.old.disk }
+    ensures marks { attached.new.marks ≡ marks_flushed (flush_said (failure_of_write result) disk_unit
+        (attachment_at (attachments_of attached.old.slots) disk_unit) attached.old.disk) disk_unit attached.old.marks }
     ensures files { InStep attached.old (F.state files.old).files → (F.state files.new).files
         ≡ flush_files (failure_of_write result) disk_unit (attachment_at (attachments_of attached.old.slots) disk_unit)
         attached.old.disk (F.state files.old).files }
@@ -249,6 +251,8 @@ pub fn digest_all<F: Files>(
     ensures slots { attached.new.slots ≡ attached.old.slots }
     ensures disk { UnlessNoMemory result (attached.new.disk
         ≡ copy_flushed (save_claim result) (attachments_of attached.old.slots) attached.old.disk) }
+    ensures marks { UnlessNoMemory result (attached.new.marks ≡ marks_flushed (disk_flushed (save_claim result)
+        (attachments_of attached.old.slots) attached.old.disk) disk_unit attached.old.marks) }
     ensures files { InStep attached.old (F.state files.old).files → UnlessNoMemory result ((F.state files.new).files
         ≡ files_flushed (save_claim result) (attachments_of attached.old.slots) attached.old.disk
         (F.state files.old).files) }

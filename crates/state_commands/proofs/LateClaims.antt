@@ -6,7 +6,7 @@ use Rattle.file_traits.specs.Lists.{NamedBytes, bytes_of, changed}
 use Rattle.unit_trait.specs.declared.kind.UnitName.{UnitName}
 use Rattle.unit_trait.specs.Kinds.{same_unit}
 use Rattle.unit_files.specs.declared.modes.AttachMode.{AttachMode}
-use Rattle.unit_files.specs.Acts.{Failure, AttachSaid, same_call, failure_at, is_due_back, FlushSaid, flushed_as, flush_said, flush_files, piece_of, written_pages, buffer_flushed}
+use Rattle.unit_files.specs.Acts.{Failure, AttachSaid, same_call, failure_at, is_due_back, FlushSaid, flushed_as, flush_said, flush_files, written_over, buffer_flushed}
 use Rattle.unit_files.specs.Acts.{Attached, UnitHasFile, OnlyWrites, NotThere, TooLong, CallFailed, attach_said, refused_first, said_unless, opening_said, opened_files, opened_said, measured, measured_as, reading_failure, read_whole}
 use Rattle.unit_files.specs.Attachments.{Attachment, attachment_at, longest_file, is_disk}
 use Rattle.unit_files.specs.Buffer.{Buffer, disk_unit}
@@ -99,7 +99,7 @@ module _ (claim : Option (UnitName × Failure)) (attached : List (Option Attachm
       by : (a : Option Attachment) → flush_files (at_unit disk_unit claim) disk_unit a disk files ≡ flush_files None disk_unit a disk files
       by None = refl
       by (Some a) =
-          ap (λ (o : Option Failure). if is_due_back disk_unit disk then changed files a.name (λ old. written_pages disk.marks 0 (piece_of o disk.bytes) old) else files)
+          ap (λ (o : Option Failure). if is_due_back disk_unit disk then changed files a.name (written_over o disk.bytes) else files)
           unmet
 
   pub copy-unmet : (disk : Buffer) → IsFlushed → copy_flushed claim attached disk ≡ copy_flushed None attached disk

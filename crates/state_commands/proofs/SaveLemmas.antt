@@ -1,13 +1,15 @@
 -- SAVE, as its calls say it.
-use Rattle.std.proofs.Common.{◌≡◌, ◌⊎◌, inl, inr, ℕ, ◌+◌, ◌==◌, ◌&&◌, not, append-nil, arith, Bool, true, false, List, [], ◌∷◌, ◌++◌, length, Option, Some, None, IfSome, Ok, Err, refl, ap, sym, ◌∙◌, subst, if◌then◌else◌}
+use Rattle.std.proofs.Common.{◌≡◌, ◌⊎◌, inl, inr, ℕ, ◌+◌, ◌==◌, ◌&&◌, not, append-nil, arith, Bool, true, false, List, [], ◌∷◌, ◌++◌, length, Option, Some, None, IsTrue, IfSome, Ok, Err, refl, ap, sym, ◌∙◌, subst, if◌then◌else◌}
+use Rattle.std.specs.Prelude.{bytes_eq}
 use Rattle.std.proofs.lemmas.Bool.{eq-eqb}
 use Rattle.file_traits.specs.declared.files.FileCall.{FileCall}
 use Rattle.file_traits.specs.declared.files.FileCall.TheVariants.{Length, Read, Write, Closing}
-use Rattle.file_traits.specs.Lists.{NamedBytes}
+use Rattle.file_traits.specs.Lists.{NamedBytes, find_file, bytes_of}
 use Rattle.unit_trait.specs.declared.kind.UnitName.{UnitName}
 use Rattle.unit_files.specs.declared.faults.UnitFault.{UnitFault}
 use Rattle.unit_files.specs.Acts.{Failure, flush_said, flushed_as, FlushSaid, HasNone, NotFlushed, Flushed, is_due_back, buffer_flushed}
 use Rattle.unit_files.specs.Answers.{failure_in}
+use Rattle.unit_files.specs.InStep.{InStep, marks_flushed}
 use Rattle.unit_files.specs.Attachments.{Attachment, attachment_at}
 use Rattle.unit_files.specs.Buffer.{Buffer, disk_unit}
 use Rattle.file_commands.specs.declared.note.Subject.TheVariants as subject
@@ -19,13 +21,16 @@ use Rattle.whole_files.specs.declared.whole.WholeFault.TheVariants as fault
 use Rattle.whole_files.specs.declared.writing.Written.{Written}
 use Rattle.whole_files.specs.Writing.{WriteSaid, write_act, said_of_writing, claimed_in_writing}
 use Rattle.nova_machine.specs.Comes.{Output}
-use Rattle.nova_machine.specs.Machine.{MachineState}
+use Rattle.nova_machine.specs.Machine.{MachineState, attached_files}
 use Rattle.nova_machine.specs.Seen.{attached_in}
 use Rattle.saved_files.specs.Saving.{first_unsaved, disk_flushed, files_flushed, copy_flushed}
 use Rattle.state_transfer.specs.Session.{saved}
 use Rattle.state_text.specs.Text.{text}
 use Rattle.command_session.specs.declared.fault.CommandFault.TheVariants.{FileFailed}
-use Rattle.command_session.specs.Live.{Live, standing}
+use Rattle.command_session.specs.Live.{Live, CommandState, standing}
+use Rattle.command_session.specs.DiskFile.{is_left_by_disk, is_by_disk_at, disk_alone}
+use Rattle.command_session.proofs.StepLemmas.{step-alone}
+use Rattle.unit_files.proofs.InStep.{covers-same}
 use Rattle.command_session.specs.Reply.{Answer, Reply}
 use Rattle.command_session.specs.Remains.{MachineRemains}
 use Rattle.command_session.specs.WholeCalls.{written_answer, write_notes}
@@ -263,19 +268,26 @@ refused-keeps number time tells save.OutOfMemory answer slots notes notes' old n
 
 -- ---- what is left of the machine
 
+-- a machine whose disk's copy was written back, unless that is the call that fails
+abbrev pub behind-flush : Option (UnitName × Failure) → MachineState → MachineState
+behind-flush claim m = record m {
+  disk = copy_flushed claim (attached_in m) m.disk;
+  marks = marks_flushed (disk_flushed claim (attached_in m) m.disk) disk_unit m.marks;
+}
+
 -- the disk's copy was written back, or is as it was
-pub copy-left : (claim : Option (UnitName × Failure)) (m : MachineState)
-    → MachineRemains true m (record m { disk = copy_flushed claim (attached_in m) m.disk })
+pub copy-left : (claim : Option (UnitName × Failure)) (m : MachineState) → MachineRemains true m (behind-flush claim m)
 copy-left claim m = by-said (disk_flushed claim (attached_in m) m.disk)
   where
-    by-said : (said : FlushSaid) → MachineRemains true m (record m { disk = buffer_flushed said disk_unit m.disk })
+    by-said : (said : FlushSaid)
+        → MachineRemains true m (record m { disk = buffer_flushed said disk_unit m.disk; marks = marks_flushed said disk_unit m.marks })
     by-said HasNone = inl refl
     by-said (NotFlushed f) = inl refl
     by-said Flushed = inr refl
 
 -- so was all that commands work on
 pub flushed-live : (claim : Option (UnitName × Failure)) (watch : WatchState) (keys : List (ℕ × ℕ)) (files files' : List NamedBytes) (lines : LineState) (whole : List LineAnswer) (m m' : MachineState)
-    → m' ≡ record m { disk = copy_flushed claim (attached_in m) m.disk } → files' ≡ files_flushed claim (attached_in m) m.disk files
+    → m' ≡ behind-flush claim m → files' ≡ files_flushed claim (attached_in m) m.disk files
     → flushed_with claim (seen (beside watch keys files lines) whole m) ≡ seen (beside watch keys files' lines) whole m'
 flushed-live claim watch keys files files' lines whole m m' is left =
     let same = attached-erased m in
@@ -324,13 +336,58 @@ unless-both (save.Failed f) comes one two = comes one two
 unless-both save.OutOfMemory comes one two = tt
 
 -- time stands
-pub time-kept : (P : Type 0) (fault : SaveFault) (m m' : MachineState) (disk : Buffer) → UnlessNoMemory {T = Saved} (Err fault) (m' ≡ record m { disk = disk })
+pub time-kept : (P : Type 0) (fault : SaveFault) (m m' : MachineState) (claim : Option (UnitName × Failure))
+    → UnlessNoMemory {T = Saved} (Err fault) (m' ≡ behind-flush claim m)
     → IfNoMemory {T = Saved} (Err fault) ((m' ≡ m) × P) → m'.time ≡ m.time
-time-kept P (save.Failed f) m m' disk is none = ap (λ (x : MachineState). x.time) is
-time-kept P save.OutOfMemory m m' disk is none = ap (λ (x : MachineState). x.time) none.0
+time-kept P (save.Failed f) m m' claim is none = ap (λ (x : MachineState). x.time) is
+time-kept P save.OutOfMemory m m' claim is none = ap (λ (x : MachineState). x.time) none.0
 
 -- the disk's copy was written back, or the machine is as it was
 pub remains-by : (P : Type 0) (fault : SaveFault) (m m' : MachineState) (claim : Option (UnitName × Failure))
-    → UnlessNoMemory {T = Saved} (Err fault) (m' ≡ record m { disk = copy_flushed claim (attached_in m) m.disk }) → IfNoMemory {T = Saved} (Err fault) ((m' ≡ m) × P) → MachineRemains true m m'
+    → UnlessNoMemory {T = Saved} (Err fault) (m' ≡ behind-flush claim m) → IfNoMemory {T = Saved} (Err fault) ((m' ≡ m) × P) → MachineRemains true m m'
 remains-by P (save.Failed f) m m' claim is none = subst (λ (x : MachineState). MachineRemains true m x) (sym is) (copy-left claim m)
 remains-by P save.OutOfMemory m m' claim is none = inl none.0
+
+-- ---- the disk's file stays in step with the copy of it
+
+-- where nothing is to be written back, it does not matter what the file had
+clean-same : (o : Option Attachment) (disk : Buffer) (files mid files' : List NamedBytes) → ((a : Attachment) → o ≡ Some a → disk.written ≡ false)
+    → is_by_disk_at o o disk mid files' ≡ is_by_disk_at o o disk files files'
+clean-same None disk files mid files' clean = refl
+clean-same (Some a) disk files mid files' clean = by (find_file files' a.name)
+  where
+    by-written : (now : List ℕ) (b : Bool) → b ≡ false → (c d : Bool) → (if b then c else bytes_eq now disk.bytes) ≡ (if b then d else bytes_eq now disk.bytes)
+    by-written now b is c d =
+        ap (λ (w : Bool). if w then c else bytes_eq now disk.bytes) is
+        ∙ sym (ap (λ (w : Bool). if w then d else bytes_eq now disk.bytes) is)
+
+    by : (found : Option (List ℕ)) → is_left_by_disk disk (bytes_of mid a.name) found ≡ is_left_by_disk disk (bytes_of files a.name) found
+    by None = refl
+    by (Some now) = by-written now disk.written (clean a refl) _ _
+
+-- a machine with what stands around it
+abbrev with-watch : WatchState → List (ℕ × ℕ) → MachineState → CommandState
+with-watch watch keys m = record { machine = m; watch = watch; keys = keys; limit = 0; notes = []; command = 0; spare = 0 }
+
+-- the copy was written back, and then a file was written that may be the disk's
+pub saved-step : (watch : WatchState) (keys : List (ℕ × ℕ)) (m m' : MachineState) (files mid files' : List NamedBytes) → m' ≡ behind-flush None m
+    → (InStep (attached_files m) files → InStep (attached_files m') mid) → InStep (attached_files m) files
+    → (lines lines' : LineState) (whole whole' : List LineAnswer)
+    → IsTrue (disk_alone (seen (beside watch keys files lines) whole m) (seen (beside watch keys files' lines') whole' m'))
+    → InStep (attached_files m') files'
+unfolding disk_alone
+saved-step watch keys m m' files mid files' is stays step lines lines' whole whole' alone =
+    let new = with-watch watch keys m' in
+    let was : Option Attachment = attachment_at (attached_in m) disk_unit in
+    let same : attachment_at (attached_in m') disk_unit ≡ was = ap (λ (x : MachineState). attachment_at (attached_in x) disk_unit) is in
+    let seen_old : attachment_at (attached_in (erased m)) disk_unit ≡ was =
+    ap (λ (l : List (Option Attachment)). attachment_at l disk_unit) (attached-erased m) in
+    let seen_new : attachment_at (attached_in (erased m')) disk_unit ≡ was =
+    ap (λ (l : List (Option Attachment)). attachment_at l disk_unit) (attached-erased m') ∙ same in
+    let clean : (a : Attachment) → attachment_at (attached_in m) disk_unit ≡ Some a → m'.disk.written ≡ false =
+    λ a there. ap (λ (x : MachineState). x.disk.written) is ∙ copy-clean (attached_in m) m.disk a there in
+    let again : is_by_disk_at (attachment_at (attached_in (erased m')) disk_unit) (attachment_at (attached_in (erased m')) disk_unit) m'.disk mid files' ≡ true =
+    (λ i. is_by_disk_at (seen_new i) (seen_new i) m'.disk mid files')
+    ∙ clean-same (attachment_at (attached_in m) disk_unit) m'.disk files mid files' clean
+    ∙ (λ i. is_by_disk_at (sym seen_old i) (sym seen_new i) m'.disk files files') ∙ alone in
+    step-alone new new mid files' refl (covers-same (attached_files m') (attached_files m') refl refl) (stays step) lines lines' whole whole' again

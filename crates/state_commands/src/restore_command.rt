@@ -24,6 +24,7 @@ ghost use Rattle.command_session.specs.declared.fault.CommandFault.TheVariants.{
 ghost use Rattle.whole_files.specs.declared.whole.WholeFault.TheVariants.{OutOfMemory as whole_want};
 ghost use Rattle.whole_files.specs.Claims.{WholeCause};
 ghost use Rattle.command_session.specs.Live.{live_in, beyond};
+ghost use Rattle.command_session.specs.DiskFile.{StaysInStep};
 ghost use Rattle.command_session.specs.LinesLeft.{LinesLeft, Unlistened, AttachCause};
 ghost use Rattle.state_commands.specs.RestoredLines.{RestoresLines};
 ghost use Rattle.command_session.specs.Refusals.{IsUnrefused};
@@ -90,6 +91,8 @@ pub fn restore<U: Unit, F: Files, L: Lines>(
     ensures listening { AttachCause L.tells result (L.state lines.old) (L.state lines.new) }
     ensures line { result ≢ Err OutOfMemory → RestoresLines L.tells result (L.state lines.old)
         session.old.machine.lines (L.state lines.new) session.new.machine.lines }
+    ensures step { IsTrue F.tells
+        → StaysInStep session.old session.new (F.state files.old).files (F.state files.new).files }
     ensures back { OnOk result (PutsBack F.tells (F.state files.old).files name.now session.old session.new) }
     ensures undone { (text : List ℕ) → result ≡ Err OutOfMemory
         → IsUndone false (Some of_state) F.tells session.old session.new text text (F.state files.old)

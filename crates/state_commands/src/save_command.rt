@@ -2,6 +2,7 @@
 ghost use Rattle.std.specs.Prelude.{◌≡◌, ◌≢◌, ◌<◌, ◌≤◌, ◌+◌, ◌++◌, ℕ, Bool, true, List, None, IsTrue, IfSome, Err, length, vec_len, vec_capacity, if◌then◌else◌};
 ghost use Rattle.fault_counts.specs.Faults.{raised};
 ghost use Rattle.file_traits.specs.State.{Opened};
+ghost use Rattle.unit_files.specs.InStep.{InStep};
 ghost use Rattle.unit_files.specs.Open.{AllOpen, Around};
 ghost use Rattle.file_commands.specs.OwnFiles.{AreOwn};
 ghost use Rattle.file_commands.specs.Notes.{notes_said};
@@ -12,12 +13,14 @@ ghost use Rattle.whole_files.specs.declared.whole.WholeFault.TheVariants as whol
 ghost use Rattle.host_lines.specs.Traffic.{Answer as LineAnswer};
 ghost use Rattle.host_lines.specs.State.{LineState};
 ghost use Rattle.nova_machine.specs.Comes.{Output};
+ghost use Rattle.nova_machine.specs.Machine.{attached_files};
 ghost use Rattle.saved_session.specs.Parts.{state_in};
 ghost use Rattle.state_transfer.specs.SavedValid.{AreStandard};
 ghost use Rattle.state_text.specs.Text.{text};
 ghost use Rattle.saved_session.specs.Valid.{Fits};
 ghost use Rattle.command_session.specs.declared.fault.CommandFault.TheVariants.{OutOfMemory};
 ghost use Rattle.command_session.specs.Live.{live_in, beyond};
+ghost use Rattle.command_session.specs.DiskFile.{StaysWhereAlone};
 ghost use Rattle.command_session.specs.Remains.{AreLeft, MachineRemains};
 ghost use Rattle.state_commands.specs.StateEffects.{save_notes, save_reply};
 ghost use Rattle.command_session.specs.Answers.{OfSave};
@@ -54,10 +57,13 @@ pub fn save<U: Unit, F: Files>(
     requires standard { AreStandard session.old.machine.units }
     requires open { AllOpen session.old.machine.slots (F.state files.old).opened }
     ensures refused { IsRefused result → AreLeft true session.old session.new }
-    ensures told { (lines : LineState) (whole : List LineAnswer) (tells : Bool) (text : Output) → IsTrue F.tells
+    ensures told { IsTrue F.tells → InStep (attached_files session.old.machine) (F.state files.old).files
+        → (lines : LineState) (whole : List LineAnswer) (tells : Bool) (text : Output)
         → Did (λ notes. save_reply notes (live_in session.old (beyond (F.state files.old).files lines whole)) name.now)
         session.old.command result (live_in session.new (beyond (F.state files.new).files lines whole)) tells text text
         (notes_said session.old.notes) (notes_said session.new.notes) }
+    ensures step { IsTrue F.tells
+        → StaysWhereAlone session.old session.new (F.state files.old).files (F.state files.new).files }
     ensures undone { (text : List ℕ) → result ≡ Err OutOfMemory
         → IsUndone true None true session.old session.new text text (F.state files.old) (F.state files.new) }
     ensures keeps { KeepsOwn session.old.command session.new.machine.time F.tells result session.old.notes

@@ -314,7 +314,7 @@ no-numbers-twice (Some h ∷ slots) =
     ap (λ (l : List (Option Held)). Some (record h { file = 0 }) ∷ l) (no-numbers-twice slots)
 
 erased-twice : (m : MachineState) → erased (erased m) ≡ erased m
-erased-twice m = λ i. record m { slots = no-numbers-twice m.slots i; lines = [] }
+erased-twice m = λ i. record m { slots = no-numbers-twice m.slots i; marks = []; lines = [] }
 
 settled-idle : (s : LineState) (line : LineOf ℕ) → IsSettled line → line.connection ≡ None → line.port ≢ Some 0
     → IsIdleLine (seen_line s line)

@@ -4,11 +4,12 @@ ghost use Rattle.host_lines.specs.Traffic.{Answer};
 ghost use Rattle.host_lines.specs.State.{LineState};
 ghost use Rattle.telnet_lines.specs.Joined.{seen_line};
 ghost use Rattle.unit_files.specs.Open.{AllOpen};
-ghost use Rattle.unit_files.specs.InStep.{InStep};
+ghost use Rattle.unit_files.specs.Buffer.{disk_unit};
+ghost use Rattle.unit_files.specs.InStep.{InStep, marks_flushed};
 ghost use Rattle.nova_machine.specs.Machine.{attached_files};
 ghost use Rattle.nova_machine.specs.Seen.{beside, seen, attached_in};
 ghost use Rattle.saved_session.specs.Parts.{state_in};
-ghost use Rattle.saved_files.specs.Saving.{first_unsaved, files_flushed, copy_flushed, save_claim, UnlessNoMemory, IfNoMemory, SaveCause};
+ghost use Rattle.saved_files.specs.Saving.{first_unsaved, disk_flushed, files_flushed, copy_flushed, save_claim, UnlessNoMemory, IfNoMemory, SaveCause};
 ghost use Rattle.state_transfer.specs.SavedValid.{AreStandard};
 ghost use Rattle.saved_session.specs.Valid.{Fits};
 ghost use Rattle.state_transfer.specs.Session.{saved, saved_machine, saved_port};
@@ -49,7 +50,8 @@ pub fn take_state<U: Unit, F: Files>(
         (F.state files.old).files ≡ save_claim result) }
     ensures machine { UnlessNoMemory result (machine.new ≡ record machine.old {
       disk = copy_flushed (save_claim result) (attached_in machine.old) machine.old.disk;
-      marks = machine.new.marks;
+      marks = marks_flushed (disk_flushed (save_claim result) (attached_in machine.old) machine.old.disk) disk_unit
+          machine.old.marks;
     }) }
     ensures files { InStep (attached_files machine.old) (F.state files.old).files → UnlessNoMemory result
         ((F.state files.new).files ≡ files_flushed (save_claim result) (attached_in machine.old) machine.old.disk

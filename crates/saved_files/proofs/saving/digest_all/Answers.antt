@@ -9,7 +9,7 @@ use Rattle.saved_files.specs.Saving.{file_places, saved_files}
 use Rattle.saved_files.specs.SavingOne.{unread_files, AreNamed, CanDigest, read_file, first_unread, fault_claim}
 use Rattle.std.specs.Prelude.{map}
 use Rattle.saved_files.proofs.SavingLaws.{can-unread, unread-apart, read-unread, none-unsaved, unflushed-first, reading-files}
-use Rattle.saved_files.proofs.SavingLaws.{reading-copy, unread-unsaved, whole-of, length-map}
+use Rattle.saved_files.proofs.SavingLaws.{reading-copy, reading-marks, unread-unsaved, whole-of, length-map}
 use Rattle.saved_files.proofs.SavingLaws.{named-as, as-many-as, few-unread}
 use Rattle.saved_files.proofs.InStep.{step-same}
 use Rattle.saved_files.proofs.saving.digest_all.Goals as goal
@@ -41,6 +41,12 @@ pub returns-in-Err-digest_each-clause-disk : goal.returns-in-Err-digest_each-cla
 returns-in-Err-digest_each-clause-disk g c =
     ap (λ (a : AttachedFiles). a.disk) c.in-Err-digest_each.ensures.kept ∙ c.in-Ok-write_back.ensures.disk
     ∙ reading-copy c.in-Err-digest_each.fault (attachments_of c.args.attached.now.slots) c.args.attached.now.disk
+    c.in-Err-digest_each.ensures.calls
+
+pub returns-in-Err-digest_each-clause-marks : goal.returns-in-Err-digest_each-clause-marks
+returns-in-Err-digest_each-clause-marks g c =
+    ap (λ (a : AttachedFiles). a.marks) c.in-Err-digest_each.ensures.kept ∙ c.in-Ok-write_back.ensures.marks
+    ∙ reading-marks c.in-Err-digest_each.fault (attachments_of c.args.attached.now.slots) c.args.attached.now.disk c.args.attached.now.marks
     c.in-Err-digest_each.ensures.calls
 
 pub returns-in-Err-digest_each-clause-files : goal.returns-in-Err-digest_each-clause-files

@@ -8,9 +8,10 @@ use Rattle.file_commands.proofs.OwnFiles.{own-both, unnoted}
 use Rattle.std.specs.Global.{Vec}
 use Rattle.whole_files.specs.declared.whole.WholeFault.{WholeFault}
 use Rattle.whole_files.specs.Claims.{WholeCause}
-use Rattle.nova_machine.specs.Machine.{MachineState}
+use Rattle.nova_machine.specs.Machine.{MachineState, attached_files}
 use Rattle.nova_machine.specs.Seen.{seen, beside}
 use Rattle.unit_files.specs.Attachments.{no_attachments}
+use Rattle.unit_files.specs.InStep.{InStep}
 use Rattle.state_transfer.specs.Listening.{wants_port, LeavesLines}
 use Rattle.saved_session.specs.Parts.{state_in}
 use Rattle.state_transfer.specs.Putting.{with_machine_of}
@@ -98,7 +99,7 @@ returns-in-Err-clause-undone g c = λ out is.
           (c.note_state_reading.ensures.notes ∙ ap (λ (t : Stamp). s.notes.items ++ read_notes subject.State t w) stamped);
       written = refl;
       lines = refl;
-      live = λ told lines whole. ap (λ (l : List NamedBytes). seen (beside s.watch s.keys l lines) whole s.machine) (read.files told);
+      live = λ told steps lines whole. ap (λ (l : List NamedBytes). seen (beside s.watch s.keys l lines) whole s.machine) (read.files told);
     })
 
 pub returns-in-Err-clause-measured : goal.returns-in-Err-clause-measured
@@ -157,7 +158,7 @@ returns-in-Err-saved_in-clause-undone g c = λ out is.
       );
       written = refl;
       lines = refl;
-      live = λ told lines whole. ap (λ (l : List NamedBytes). seen (beside s.watch s.keys l lines) whole s.machine) (read.files told);
+      live = λ told steps lines whole. ap (λ (l : List NamedBytes). seen (beside s.watch s.keys l lines) whole s.machine) (read.files told);
     })
 
 pub returns-in-Err-saved_in-clause-measured : goal.returns-in-Err-saved_in-clause-measured
@@ -250,6 +251,7 @@ returns-in-Ok-set_state-clause-back g c =
       machine = subst (λ (lines : List (LineOf ℕ)). c.set_state.new.machine ≡ record (with_machine_of s.machine (state_in c.in-Ok-saved_in.saved).machine) {
         slots = c.set_state.new.machine.slots;
         disk = c.set_state.new.machine.disk;
+        marks = c.set_state.new.machine.marks;
         lines = lines;
       }) set.ports set.rest;
       attached = set.attached;
@@ -318,7 +320,7 @@ returns-clause-undone g c = λ out is.
       );
       written = refl;
       lines = ap (λ (m : MachineState). m.lines) set.refused;
-      live = λ told lines whole. (λ i. seen (beside (set.unwatched i) s.keys ((set.files told ∙ read.files told) i) lines) whole (set.refused i));
+      live = λ told steps lines whole. (λ i. seen (beside (set.unwatched i) s.keys ((set.files told ∙ read.files told) i) lines) whole (set.refused i));
     })
 
 pub returns-clause-measured : goal.returns-clause-measured
@@ -421,3 +423,32 @@ returns-clause-works g c =
     let after = g.F.Files.state c.set_state.new.files in
     let opens : before.given < mid.given = subst (λ (r : Result StateReader WholeFault). IfOk r (λ x. before.given < mid.given)) c.in-Ok.ensures.reader c.read_state_file-read.ensures.taken in
     refused-works c.in-Err-set_state.fault c.fault_of_restore.result before mid after opens c.in-Err-set_state.ensures.counts.ids c.fault_of_restore.ensures
+
+-- ---- the disk's file stays in step with the copy of it
+
+pub returns-then-is_occupied-clause-step : goal.returns-then-is_occupied-clause-step
+returns-then-is_occupied-clause-step g c = rw (← c.session.view_is) (λ told step. step)
+
+pub returns-in-Err-clause-step : goal.returns-in-Err-clause-step
+returns-in-Err-clause-step g c =
+    let s = c.session.inside in
+    rw (← c.session.view_is)
+    (λ told step. subst (λ (l : List NamedBytes). InStep (attached_files s.machine) l) (sym (c.read_state_file-read.ensures.files told)) step)
+
+pub returns-in-Err-saved_in-clause-step : goal.returns-in-Err-saved_in-clause-step
+returns-in-Err-saved_in-clause-step g c =
+    let s = c.session.inside in
+    rw (← c.session.view_is)
+    (λ told step. subst (λ (l : List NamedBytes). InStep (attached_files s.machine) l) (sym (c.read_state_file-read.ensures.files told)) step)
+
+pub returns-in-Ok-set_state-clause-step : goal.returns-in-Ok-set_state-clause-step
+returns-in-Ok-set_state-clause-step g c = λ told step. c.in-Ok-set_state.ensures.step told
+
+pub returns-clause-step : goal.returns-clause-step
+returns-clause-step g c =
+    let s = c.session.inside in
+    let set = c.in-Err-set_state.ensures in
+    let read = c.read_state_file-read.ensures in
+    rw (← c.session.view_is)
+    (λ told step. subst (λ (x : MachineState × List NamedBytes). InStep (attached_files x.0) x.1)
+    (λ i. (sym set.refused i, sym (set.files told ∙ read.files told) i)) step)

@@ -17,12 +17,12 @@ use Rattle.command_session.specs.WholeCalls.{write_notes}
 use Rattle.command_session.specs.Doing.{KeepsOwn}
 use Rattle.command_session.proofs.BehindLemmas.{stamp_in}
 use Rattle.command_session.proofs.SeenLemmas.{attached-erased}
-use Rattle.state_commands.proofs.SaveLemmas.{saved-did, refused-did, quiet-keeps, refused-keeps, copy-left, flushed-live, flushed-remains, unless, unless-both, time-kept, remains-by}
+use Rattle.state_commands.proofs.SaveLemmas.{saved-step, saved-did, refused-did, quiet-keeps, refused-keeps, copy-left, flushed-live, flushed-remains, unless, unless-both, time-kept, remains-by}
 use Rattle.command_session.proofs.WholeLemmas.{write-keeps, none-written}
 use Rattle.state_commands.proofs.save_command.save.Goals as goal
 
 pub returns-in-Ok-clause-told : goal.returns-in-Ok-clause-told
-returns-in-Ok-clause-told g c = λ lines whole tells out told.
+returns-in-Ok-clause-told g c =
     let s = c.session.inside in
     let before = g.F.Files.state c.args.files.now in
     let mid = g.F.Files.state c.take_state.new.files in
@@ -31,12 +31,12 @@ returns-in-Ok-clause-told g c = λ lines whole tells out told.
     let w = c.write_saved-written.result in
     let write = c.write_saved-written.ensures in
     let taken = c.in-Ok.ensures in
+    let stamped = c.stamp_of-stamp.ensures ∙ ap stamp_in (sym c.session.view_is) in
+    rw (← c.session.view_is) (λ told step lines whole tells out.
     let live = seen (beside s.watch s.keys before.files lines) whole s.machine in
     let behind = seen (beside s.watch s.keys mid.files lines) whole m in
-    let stamped = c.stamp_of-stamp.ensures ∙ ap stamp_in (sym c.session.view_is) in
-    rw (← c.session.view_is)
-    (saved-did live behind c.args.name.now w (flushed-live None s.watch s.keys before.files mid.files lines whole s.machine m taken.machine taken.files)
-    (ap (λ (l : List (Option Attachment)). first_unsaved None l s.machine.disk before.files) (attached-erased s.machine) ∙ taken.first told)
+    saved-did live behind c.args.name.now w (flushed-live None s.watch s.keys before.files mid.files lines whole s.machine m taken.machine (taken.files step))
+    (ap (λ (l : List (Option Attachment)). first_unsaved None l s.machine.disk before.files) (attached-erased s.machine) ∙ taken.first told step)
     s.command (seen (beside s.watch s.keys after.files lines) whole m) (text_of (state_in c.in-Ok.saved)) after.files c.written_answer.result tells out s.notes.items c.note_writing.new.notes.items
     (ap text_of (taken.told told s.keys lines whole)) c.written_answer.ensures refl (write.made told) write.shape.fits (write.said told)
     (c.note_writing.ensures.notes ∙ ap (λ (t : Stamp). s.notes.items ++ write_notes subject.State t w) stamped))
@@ -57,10 +57,10 @@ returns-in-Ok-clause-undone g c = λ out is.
       notes = c.note_writing.ensures.notes ∙ ap (λ (l : List FaultNote). s.notes.items ++ l) none.0 ∙ append-nil s.notes.items;
       written = refl;
       lines = ap (λ (x : MachineState). x.lines) taken.machine;
-      live = λ _ lines whole.
+      live = λ _ step lines whole.
           let live = seen (beside s.watch s.keys before.files lines) whole s.machine in
           subst (λ (l : Live). Remains true live l)
-          (flushed-live None s.watch s.keys before.files mid.files lines whole s.machine m taken.machine taken.files
+          (flushed-live None s.watch s.keys before.files mid.files lines whole s.machine m taken.machine (taken.files step)
           ∙ ap (λ (l : List NamedBytes). seen (beside s.watch s.keys l lines) whole m) (sym (write.unmade none.1)))
           (flushed-remains live);
     })
@@ -84,7 +84,7 @@ returns-in-Ok-clause-keeps g c =
     (c.note_writing.ensures.notes ∙ ap (λ (t : Stamp). s.notes.items ++ write_notes subject.State t w) stamped))))
 
 pub returns-in-Err-clause-told : goal.returns-in-Err-clause-told
-returns-in-Err-clause-told g c = λ lines whole tells out told.
+returns-in-Err-clause-told g c =
     let s = c.session.inside in
     let before = g.F.Files.state c.args.files.now in
     let mid = g.F.Files.state c.take_state.new.files in
@@ -92,11 +92,11 @@ returns-in-Err-clause-told g c = λ lines whole tells out told.
     let f = c.in-Err.fault in
     let taken = c.in-Err.ensures in
     let stamped = c.stamp_of-stamp.ensures ∙ ap stamp_in (sym c.session.view_is) in
-    rw (← c.session.view_is)
-    (refused-did s.command (seen (beside s.watch s.keys before.files lines) whole s.machine) (seen (beside s.watch s.keys mid.files lines) whole m) c.args.name.now f (Err c.fault_of_save.result) tells out
+    rw (← c.session.view_is) (λ told step lines whole tells out.
+    refused-did s.command (seen (beside s.watch s.keys before.files lines) whole s.machine) (seen (beside s.watch s.keys mid.files lines) whole m) c.args.name.now f (Err c.fault_of_save.result) tells out
     s.notes.items c.note_saving.new.notes.items
-    (unless f (λ e. ap (λ (l : List (Option Attachment)). first_unsaved (save_claim {T = Saved} (Err f)) l s.machine.disk before.files) (attached-erased s.machine) ∙ e) (taken.first told))
-    (unless-both f (λ machine files. sym (flushed-live (save_claim {T = Saved} (Err f)) s.watch s.keys before.files mid.files lines whole s.machine m machine files)) taken.machine taken.files)
+    (unless f (λ e. ap (λ (l : List (Option Attachment)). first_unsaved (save_claim {T = Saved} (Err f)) l s.machine.disk before.files) (attached-erased s.machine) ∙ e) (taken.first told step))
+    (unless-both f (λ machine files. sym (flushed-live (save_claim {T = Saved} (Err f)) s.watch s.keys before.files mid.files lines whole s.machine m machine files)) taken.machine (taken.files step))
     (c.note_saving.ensures.notes ∙ ap (λ (t : Stamp). s.notes.items ++ save_notes t f) stamped) (ap Err c.fault_of_save.ensures))
 
 pub returns-in-Err-clause-keeps : goal.returns-in-Err-clause-keeps
@@ -107,7 +107,7 @@ returns-in-Err-clause-keeps g c =
     let f = c.in-Err.fault in
     let taken = c.in-Err.ensures in
     let stamped = c.stamp_of-stamp.ensures ∙ ap stamp_in (sym c.session.view_is) in
-    let time = time-kept _ f s.machine c.take_state.new.machine _ taken.machine taken.no_memory in
+    let time = time-kept _ f s.machine c.take_state.new.machine (save_claim {T = Saved} (Err f)) taken.machine taken.no_memory in
     rw (← c.session.view_is)
     (subst (λ (t : ℕ). KeepsOwn s.command t g.F.Files.tells (Err c.fault_of_save.result) s.notes.items c.note_saving.new.notes.items before mid) (sym time)
     (refused-keeps s.command s.machine.time g.F.Files.tells f (Err c.fault_of_save.result) s.machine.slots s.notes.items c.note_saving.new.notes.items before mid taken.cause
@@ -123,3 +123,14 @@ returns-in-Err-clause-machine g c =
     let s = c.session.inside in
     let taken = c.in-Err.ensures in
     rw (← c.session.view_is) (remains-by _ c.in-Err.fault s.machine c.take_state.new.machine (save_claim {T = Saved} (Err c.in-Err.fault)) taken.machine taken.no_memory)
+
+pub returns-in-Ok-clause-step : goal.returns-in-Ok-clause-step
+returns-in-Ok-clause-step g c =
+    let s = c.session.inside in
+    let taken = c.in-Ok.ensures in
+    rw (← c.session.view_is) (λ told.
+    saved-step s.watch s.keys s.machine c.take_state.new.machine (g.F.Files.state c.args.files.now).files (g.F.Files.state c.take_state.new.files).files
+    (g.F.Files.state c.write_saved-written.new.files).files taken.machine taken.step)
+
+pub returns-in-Err-clause-step : goal.returns-in-Err-clause-step
+returns-in-Err-clause-step g c = rw (← c.session.view_is) (λ told step lines lines' whole whole' alone. c.in-Err.ensures.step step)
