@@ -109,11 +109,11 @@ pub record Stands (live : Live) (reply : Reply) : Type 0 where
 -- ---- states
 
 -- a machine with the same kinds of units, and one of this program where what is attached to it and its lines are the same
-program-machine : (m m' : MachineState) → IsProgramMachine m → kinds_of m'.units ≡ kinds_of m.units → m'.slots ≡ m.slots → m'.marks ≡ m.marks → m'.lines ≡ m.lines → IsProgramMachine m'
-program-machine m m' is kinds slots marks lines = record {
+program-machine : (m m' : MachineState) → IsProgramMachine m → kinds_of m'.units ≡ kinds_of m.units → m'.slots ≡ m.slots → m'.aside ≡ m.aside → m'.lines ≡ m.lines → IsProgramMachine m'
+program-machine m m' is kinds slots aside lines = record {
   units = kinds ∙ is.units;
   numbers = ap (λ (l : List (Option Held)). map unnumbered l) slots ∙ is.numbers ∙ sym slots;
-  marks = marks ∙ is.marks;
+  aside = aside ∙ is.aside;
   lines = lines ∙ is.lines;
 }
 
@@ -123,12 +123,12 @@ numberless-numbers [] = refl
 numberless-numbers (None ∷ attached) = ap (λ (l : List (Option Held)). None ∷ l) (numberless-numbers attached)
 numberless-numbers (Some a ∷ attached) = ap (λ (l : List (Option Held)). Some (record { file = 0; attachment = a }) ∷ l) (numberless-numbers attached)
 
-program-filed : (m m' : MachineState) (attached : List (Option Attachment)) → IsProgramMachine m → kinds_of m'.units ≡ kinds_of m.units → m'.slots ≡ numberless attached → m'.marks ≡ m.marks → m'.lines ≡ m.lines
+program-filed : (m m' : MachineState) (attached : List (Option Attachment)) → IsProgramMachine m → kinds_of m'.units ≡ kinds_of m.units → m'.slots ≡ numberless attached → m'.aside ≡ m.aside → m'.lines ≡ m.lines
     → IsProgramMachine m'
-program-filed m m' attached is kinds slots marks lines = record {
+program-filed m m' attached is kinds slots aside lines = record {
   units = kinds ∙ is.units;
   numbers = ap (λ (l : List (Option Held)). map unnumbered l) slots ∙ numberless-numbers attached ∙ sym slots;
-  marks = marks ∙ is.marks;
+  aside = aside ∙ is.aside;
   lines = lines ∙ is.lines;
 }
 
@@ -151,9 +151,9 @@ changed-live live m w files is machine taken time own watch all = record {
   line = is.line;
 }
 
-machine-live : (live : Live) (m : MachineState) → ValidLive live → ValidMachine m → LeavesRest live.machine m → m.marks ≡ live.machine.marks → ValidLive (with_machine live m)
-machine-live live m is machine rest marks =
-    changed-live live m live.watch live.files is machine rest.taken rest.time (program-machine live.machine m is.machine rest.kinds rest.slots marks rest.lines) is.valid.watch is.valid.files
+machine-live : (live : Live) (m : MachineState) → ValidLive live → ValidMachine m → LeavesRest live.machine m → m.aside ≡ live.machine.aside → ValidLive (with_machine live m)
+machine-live live m is machine rest aside =
+    changed-live live m live.watch live.files is machine rest.taken rest.time (program-machine live.machine m is.machine rest.kinds rest.slots aside rest.lines) is.valid.watch is.valid.files
 
 pub watch-live : (live : Live) (w : WatchState) → ValidLive live → ValidWatch w → ValidLive (record live { watch = w })
 watch-live live w is watch = changed-live live live.machine w live.files is is.valid.machine refl refl is.machine watch is.valid.files
@@ -328,7 +328,7 @@ stands-ran notes step count live is =
     shaped s t is valid time shape = record {
       valid = valid;
       time = time;
-      machine = program-machine s.machine t.machine is.machine shape.kinds shape.slots shape.marks shape.own;
+      machine = program-machine s.machine t.machine is.machine shape.kinds shape.slots shape.aside shape.own;
       line = shape.count ∙ is.line;
     }
 
@@ -814,7 +814,7 @@ put-back bytes s live all read is =
       machine = record {
         units = put-back-is-valid.units s live valid;
         numbers = numberless-numbers (with_all no_attachments s.files);
-        marks = refl;
+        aside = refl;
         lines = refl;
       };
       line = many-from s.port live.lines ∙ is.line;

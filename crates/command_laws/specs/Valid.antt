@@ -25,7 +25,7 @@ use Rattle.command_session.specs.Remains.{Remains}
 pub record IsProgramMachine (m : MachineState) : Type 0 where
   pub units : AreStandard m.units
   pub numbers : map unnumbered m.slots ≡ m.slots
-  pub marks : m.marks ≡ []
+  pub aside : m.aside ≡ []
   pub lines : m.lines ≡ []
 
 -- A state that commands work on: all is in range, no time comes past the end of time, and it has a machine of this program,

@@ -40,7 +40,7 @@ DoWorks (Err fault) old new = Unit {0}
 pub record IsAttached (option : ℕ) (unit : UnitName) (name : List ℕ) (m m' : MachineState) : Type 0 where
   pub length : ℕ
   pub attached : attached_in m' ≡ attached_by (Attached length) (mode_of option) unit name (attached_in m)
-  pub rest : m' ≡ record m { slots = m'.slots; disk = m'.disk; marks = m'.marks; units = positioned unit (first_place unit.kind length) m.units }
+  pub rest : m' ≡ record m { slots = m'.slots; disk = m'.disk; aside = m'.aside; units = positioned unit (first_place unit.kind length) m.units }
   pub copy : is_disk unit.kind ≡ false → m'.disk ≡ m.disk
 
 abbrev pub AttachWorks : ℕ → UnitName → List ℕ → Answer → MachineState → MachineState → Type 0

@@ -3,7 +3,7 @@
 use Rattle.std.specs.Prelude.{◌≡◌, ◌⊎◌, Bool, true, false, List, Option, None, Ok, Err}
 use Rattle.file_traits.specs.Lists.{NamedBytes}
 use Rattle.unit_files.specs.Buffer.{disk_unit}
-use Rattle.unit_files.specs.Pages.{no_marks}
+use Rattle.unit_files.specs.Pages.{nothing_aside}
 use Rattle.unit_files.specs.InStep.{InStep}
 use Rattle.file_commands.specs.declared.note.Subject.{Subject}
 use Rattle.nova_machine.specs.Machine.{MachineState, attached_files}
@@ -24,7 +24,7 @@ flushed live = record live { machine = flushed_machine live.machine; files = flu
 -- definition speaks of.
 abbrev pub MachineRemains : Bool → MachineState → MachineState → Type 0
 MachineRemains false old new = new ≡ old
-MachineRemains true old new = (new ≡ old) ⊎ (new ≡ record (flushed_machine old) { marks = no_marks })
+MachineRemains true old new = (new ≡ old) ⊎ (new ≡ record (flushed_machine old) { aside = nothing_aside })
 
 -- the disk's file is in step with the copy of it, where a command flushes
 abbrev pub StepsIf : Bool → MachineState → List NamedBytes → Type 0

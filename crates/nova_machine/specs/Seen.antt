@@ -32,7 +32,7 @@ unnumbered slot = option_map (λ (h : Held). record h { file = 0 }) slot
 
 -- a machine without the numbers of open files, without the marks of the disk's pages, and without its lines
 abbrev pub erased : MachineState → MachineState
-erased m = record m { slots = map unnumbered m.slots; marks = []; lines = [] }
+erased m = record m { slots = map unnumbered m.slots; aside = []; lines = [] }
 
 -- What stands beside the machine: the watch tables, the timed keys, all files, and the ports and connections of the
 -- outside.

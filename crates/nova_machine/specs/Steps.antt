@@ -78,7 +78,7 @@ pub record IsMade (keys : List (ℕ × ℕ)) (unit : UnitName) (w : Want) (watch
   pub answer : IsAnswer w (attachment_at (attached_in m) unit) (first_key (due_send m.time watch.sends) (due_key keys m.taken m.time)) watch.expects made
   pub memory : MemoryState
   pub done_is : done
-      ≡ record (worked memory (typed_key (due_send m.time watch.sends) (due_key keys m.taken m.time)) (attachment_at (attached_in m) unit) w m) { marks = done.marks }
+      ≡ record (worked memory (typed_key (due_send m.time watch.sends) (due_key keys m.taken m.time)) (attachment_at (attached_in m) unit) w m) { aside = done.aside }
   pub watched : watch' ≡ watch_behind m.time w made watch
 
 -- the unit is answered, but where a call has failed, an image is bad or the console has refused a byte

@@ -66,7 +66,7 @@ machine_from m attached files = record {
   taken = m.cpu.keys_taken;
   slots = map held_from attached;
   disk = copy_of (attachment_at attached disk_unit) files;
-  marks = [];
+  aside = [];
   lines = [];
 }
 

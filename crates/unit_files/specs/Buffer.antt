@@ -8,7 +8,7 @@ use Rattle.unit_trait.specs.declared.kind.UnitName.{UnitName}
 use Rattle.unit_files.specs.declared.faults.SectorAnswer.{SectorAnswer}
 use Rattle.unit_files.specs.declared.faults.SectorAnswer.TheVariants.{Done, NoFile, ReadOnly}
 use Rattle.unit_files.specs.Attachments.{Attachment, Held, no_files}
-use Rattle.unit_files.specs.Pages.{no_marks}
+use Rattle.unit_files.specs.Pages.{Aside, nothing_aside}
 
 pub record Buffer : Type 0 where
   pub bytes : List ℕ
@@ -24,10 +24,10 @@ no_buffer = record { bytes = []; written = false }
 pub record AttachedFiles : Type 0 where
   pub slots : List (Option Held)
   pub disk : Buffer
-  pub marks : List Bool
+  pub aside : Aside
 
 abbrev pub nothing_attached : AttachedFiles
-nothing_attached = record { slots = no_files; disk = no_buffer; marks = no_marks }
+nothing_attached = record { slots = no_files; disk = no_buffer; aside = nothing_aside }
 
 abbrev pub disk_unit : UnitName
 disk_unit = record { kind = Dsk; unit = 0 }

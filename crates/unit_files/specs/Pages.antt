@@ -21,3 +21,11 @@ page_of place = place / page_bytes
 -- the marks, with those from a page up to another one set
 unfoldable pub marked : ℕ → ℕ → List Bool → List Bool
 marked first last marks = take first marks ++ replicate (last + 1 - first) true ++ drop (last + 1) marks
+
+-- What the code keeps of the disk's copy beside its content, and what that is where nothing was written: no definition of what
+-- is done speaks of it, and what a session works on has nothing of it.
+abbrev pub Aside : Type 0
+Aside = List Bool
+
+abbrev pub nothing_aside : Aside
+nothing_aside = no_marks
