@@ -9,7 +9,7 @@ use Rattle.unit_list.specs.Bus.{unit_at, kinds_of}
 use Rattle.unit_list.specs.Reset.{reset_units, reset_events}
 use Rattle.telnet_lines.specs.Line.{LineOf, unconnected}
 use Rattle.unit_files.specs.Attachments.{Held, no_files}
-use Rattle.unit_files.specs.Pages.{Aside, nothing_aside}
+use Rattle.unit_files.specs.Aside.{Aside, nothing_aside}
 use Rattle.unit_files.specs.Buffer.{Buffer, AttachedFiles, no_buffer}
 use Rattle.nova_interrupts.specs.declared.interrupts.Ints.{Ints}
 use Rattle.nova_interrupts.specs.Interrupts.{no_interrupts}
@@ -17,8 +17,8 @@ use Rattle.nova_processor.specs.Processor.{ProcessorState, new_processor}
 
 -- the processor with its memory, the interrupts, the switch register, whether a word to a device that is not there stops
 -- the machine, the units in bus order, their events that wait, the time: how many instructions were executed since the
--- session began; how many keys were taken; what is attached to the units, what the disk holds of its file, and in which pages
--- that was changed, of which nothing that is done depends; and the terminal lines, line 0 first
+-- session began; how many keys were taken; what is attached to the units, what the disk holds of its file, and what the code
+-- keeps beside that, on which nothing that is done depends; and the terminal lines, line 0 first
 pub record MachineState : Type 0 where
   pub processor : ProcessorState
   pub ints : Ints

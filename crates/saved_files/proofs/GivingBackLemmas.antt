@@ -4,7 +4,7 @@ use Rattle.std.specs.List.{AllByRecursion}
 use Rattle.std.proofs.lemmas.List.{get_or-set_other}
 use Rattle.unit_files.specs.Attachments.{Attachment, attachments_of, attachment_at, is_disk, file_place, no_attachments, no_files}
 use Rattle.unit_files.specs.Acts.{detached}
-use Rattle.unit_files.specs.Pages.{nothing_aside}
+use Rattle.unit_files.specs.Aside.{nothing_aside}
 use Rattle.unit_files.specs.Buffer.{AttachedFiles, Buffer, no_buffer, nothing_attached}
 use Rattle.saved_files.specs.GivingBack.{IsHeldIn, IsNoDisk, without_all, copy_behind}
 use Rattle.saved_session.specs.Parts.{FilePart}

@@ -5,7 +5,7 @@ use Rattle.std.proofs.lemmas.List.{get_or-set_other}
 use Rattle.file_traits.specs.Lists.{NamedBytes}
 use Rattle.unit_trait.specs.declared.kind.UnitName.{UnitName}
 use Rattle.unit_files.specs.Attachments.{Attachment, attachments_of, attachment_at, with_attachment, file_place, is_disk}
-use Rattle.unit_files.specs.Pages.{nothing_aside}
+use Rattle.unit_files.specs.Aside.{nothing_aside}
 use Rattle.unit_files.specs.Buffer.{Buffer, AttachedFiles, nothing_attached, disk_unit}
 use Rattle.unit_files.specs.InStep.{StepAt, InStep}
 use Rattle.unit_files.proofs.Copies.{not-first}

@@ -6,7 +6,7 @@ ghost use Rattle.file_traits.specs.Lists.{bytes_of};
 ghost use Rattle.file_traits.specs.State.{Opened};
 ghost use Rattle.unit_files.specs.Attachments.{Attachment, attachments_of, attachment_at, no_attachments};
 ghost use Rattle.unit_files.specs.Attachments.{takes_attachment, is_disk};
-ghost use Rattle.unit_files.specs.Pages.{nothing_aside};
+ghost use Rattle.unit_files.specs.Aside.{nothing_aside};
 ghost use Rattle.unit_files.specs.Buffer.{nothing_attached, no_buffer, disk_unit};
 ghost use Rattle.unit_files.specs.InStep.{InStep};
 ghost use Rattle.unit_files.specs.Acts.{detached};

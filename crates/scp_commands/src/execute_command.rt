@@ -15,7 +15,7 @@ ghost use Rattle.command_session.specs.declared.next.Next.TheVariants.{Ran};
 ghost use Rattle.command_session.specs.declared.fault.CommandFault.TheVariants.{OutOfMemory};
 ghost use Rattle.command_session.specs.Live.{live_in, beyond};
 ghost use Rattle.scp_commands.specs.Effect.{effect, IsStateless};
-ghost use Rattle.command_session.specs.Nature.{nature};
+ghost use Rattle.command_session.specs.Nature.{nature, IsUntold};
 ghost use Rattle.command_session.specs.DiskFile.{StaysWhereAlone};
 ghost use Rattle.command_session.specs.LinesLeft.{LinesLeft, IsUnlistened, ListenCause};
 ghost use Rattle.scp_commands.specs.LineAnswers.{LinesAnswer};
@@ -68,6 +68,12 @@ pub fn execute<U: Unit, F: Files, L: Lines, S: Sink>(
     ensures told { IsTold F.tells session.old.machine.slots L.tells (L.state lines.old) session.old.machine.lines
         command.now → InStep (attached_files session.old.machine) (F.state files.old).files
         → (whole : List LineAnswer) → IsFirst (record_in (L.state lines.new).told) whole
+        → Did (λ notes. effect session.old.limit notes
+        (live_in session.old (beyond (F.state files.old).files (L.state lines.old) whole)) command.now)
+        session.old.command result (live_in session.new (beyond (F.state files.new).files (L.state lines.new) whole))
+        S.tells (output (S.written out.old) (L.state lines.old).sent) (output (S.written out.new) (L.state lines.new).sent)
+        (notes_said session.old.notes) (notes_said session.new.notes) }
+    ensures untold { IsUntold command.now → (whole : List LineAnswer)
         → Did (λ notes. effect session.old.limit notes
         (live_in session.old (beyond (F.state files.old).files (L.state lines.old) whole)) command.now)
         session.old.command result (live_in session.new (beyond (F.state files.new).files (L.state lines.new) whole))
@@ -144,6 +150,12 @@ fn obey<U: Unit, F: Files, L: Lines, S: Sink>(
         session.old.command result (live_in session.new (beyond (F.state files.new).files (L.state lines.new) whole))
         S.tells (output (S.written out.old) (L.state lines.old).sent) (output (S.written out.new) (L.state lines.new).sent)
         (notes_said session.old.notes) (notes_said session.new.notes) }
+    ensures untold { IsUntold command.now → (whole : List LineAnswer)
+        → Did (λ notes. effect session.old.limit notes
+        (live_in session.old (beyond (F.state files.old).files (L.state lines.old) whole)) command.now)
+        session.old.command result (live_in session.new (beyond (F.state files.new).files (L.state lines.new) whole))
+        S.tells (output (S.written out.old) (L.state lines.old).sent) (output (S.written out.new) (L.state lines.new).sent)
+        (notes_said session.old.notes) (notes_said session.new.notes) }
     ensures step { IsTold F.tells session.old.machine.slots L.tells (L.state lines.old) session.old.machine.lines
         command.now → StaysWhereAlone session.old session.new (F.state files.old).files (F.state files.new).files }
     ensures grows { Grows S.tells (S.written out.old) (S.written out.new) }
@@ -213,6 +225,12 @@ fn obey_stateless<U: Unit, F: Files, L: Lines, S: Sink>(
     ensures told { IsTold F.tells session.old.machine.slots L.tells (L.state lines.old) session.old.machine.lines
         command.now → InStep (attached_files session.old.machine) (F.state files.old).files
         → (whole : List LineAnswer) → IsFirst (record_in (L.state lines.new).told) whole
+        → Did (λ notes. effect session.old.limit notes
+        (live_in session.old (beyond (F.state files.old).files (L.state lines.old) whole)) command.now)
+        session.old.command result (live_in session.new (beyond (F.state files.new).files (L.state lines.new) whole))
+        S.tells (output (S.written out.old) (L.state lines.old).sent) (output (S.written out.new) (L.state lines.new).sent)
+        (notes_said session.old.notes) (notes_said session.new.notes) }
+    ensures untold { IsUntold command.now → (whole : List LineAnswer)
         → Did (λ notes. effect session.old.limit notes
         (live_in session.old (beyond (F.state files.old).files (L.state lines.old) whole)) command.now)
         session.old.command result (live_in session.new (beyond (F.state files.new).files (L.state lines.new) whole))

@@ -8,7 +8,7 @@ use Rattle.unit_trait.specs.declared.kind.UnitName.{UnitName}
 use Rattle.unit_files.specs.declared.faults.SectorAnswer.{SectorAnswer}
 use Rattle.unit_files.specs.declared.faults.SectorAnswer.TheVariants.{Done, NoFile, ReadOnly}
 use Rattle.unit_files.specs.Attachments.{Attachment, Held, no_files}
-use Rattle.unit_files.specs.Pages.{Aside, nothing_aside}
+use Rattle.unit_files.specs.Aside.{Aside, nothing_aside}
 
 pub record Buffer : Type 0 where
   pub bytes : List ℕ
@@ -19,8 +19,8 @@ pub record Buffer : Type 0 where
 abbrev pub no_buffer : Buffer
 no_buffer = record { bytes = []; written = false }
 
--- What is attached to the units, and the disk's copy; and the pages in which something was written since its bytes were read
--- or written back, a mark each from the front, which no definition of what is done speaks of.
+-- What is attached to the units, and the disk's copy; and what the code keeps beside that copy, of which no definition of what
+-- is done speaks.
 pub record AttachedFiles : Type 0 where
   pub slots : List (Option Held)
   pub disk : Buffer

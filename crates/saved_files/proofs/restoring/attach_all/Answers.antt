@@ -2,7 +2,7 @@ use Rattle.std.proofs.Common.{◌≡◌, sym, ap, ◌∙◌, List, Result}
 use Rattle.std.specs.Prelude.{Ok, Err, OnErr}
 use Rattle.file_traits.specs.State.{Opened}
 use Rattle.unit_files.specs.Attachments.{attachments_of, no_files}
-use Rattle.unit_files.specs.Pages.{nothing_aside}
+use Rattle.unit_files.specs.Aside.{nothing_aside}
 use Rattle.unit_files.specs.Buffer.{AttachedFiles, no_buffer, nothing_attached}
 use Rattle.unit_files.specs.Open.{Around}
 use Rattle.saved_files.specs.declared.file_faults.RestoreFault.{RestoreFault}

@@ -26,6 +26,16 @@ returns-in-Err-clause-told g c = λ told step whole first.
     did-want (λ own. effect s.limit own (live_in s files) c.args.command.now) s.command (live_in new files) g.S.Sink.tells text text (notes_said s.notes) (notes_said new.notes)
     (ap (λ (x : CommandState). notes_said x.notes) c.in-Err.ensures.rest)
 
+pub returns-in-Err-clause-untold : goal.returns-in-Err-clause-untold
+returns-in-Err-clause-untold g c = λ untold whole.
+    let s = c.args.session.now in
+    let new = c.take_room.new.self in
+    let ports = g.L.Lines.state c.args.lines.now in
+    let files = beyond (g.F.Files.state c.args.files.now).files ports whole in
+    let text = output (g.S.Sink.written c.args.out.now) ports.sent in
+    did-want (λ own. effect s.limit own (live_in s files) c.args.command.now) s.command (live_in new files) g.S.Sink.tells text text (notes_said s.notes) (notes_said new.notes)
+    (ap (λ (x : CommandState). notes_said x.notes) c.in-Err.ensures.rest)
+
 pub returns-in-Err-clause-want : goal.returns-in-Err-clause-want
 returns-in-Err-clause-want g c = λ is. may-want c.args.session.now.spare c.args.command.now c.in-Err.ensures.refused
 

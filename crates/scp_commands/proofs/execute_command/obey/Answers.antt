@@ -7,7 +7,7 @@ use Rattle.scp_commands.specs.Effect.{effect}
 use Rattle.command_session.proofs.KeptLemmas.{lines-kept}
 use Rattle.scp_commands.proofs.ObeyLemmas.{noted-did, save-named, restore-named, as-kept}
 use Rattle.command_session.proofs.ListenLemmas.{unlistened, own-no-port}
-use Rattle.command_session.specs.Nature.{nature}
+use Rattle.command_session.specs.Nature.{nature, IsUntold}
 use Rattle.command_session.specs.Doing.{says_files, IsTold, IsUndone, KeepsBy, is_restore, OpensOwn, opens_of, Did}
 use Rattle.host_commands.proofs.HostLemmas.{kept-as}
 use Rattle.command_session.specs.Remains.{AreLeft}
@@ -220,3 +220,13 @@ returns-in-Save-clause-grows g c = grows-same g.S.Sink.tells (g.S.Sink.written c
 
 pub returns-in-Restore-clause-grows : goal.returns-in-Restore-clause-grows
 returns-in-Restore-clause-grows g c = grows-same g.S.Sink.tells (g.S.Sink.written c.args.out.now) (g.S.Sink.written c.args.out.now) refl
+
+-- ---- neither is a command that works on no file and no line
+
+pub returns-in-Save-clause-untold : goal.returns-in-Save-clause-untold
+returns-in-Save-clause-untold g c = λ untold.
+    let is = subst IsUntold (sym c.command.view_is ∙ ap (request_of _) c.in-Save.is) untold in absurd (cc is.0)
+
+pub returns-in-Restore-clause-untold : goal.returns-in-Restore-clause-untold
+returns-in-Restore-clause-untold g c = λ untold.
+    let is = subst IsUntold (sym c.command.view_is ∙ ap (request_of _) c.in-Restore.is) untold in absurd (cc is.0)

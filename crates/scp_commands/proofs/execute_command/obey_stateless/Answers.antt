@@ -23,7 +23,7 @@ use Rattle.scp_commands.proofs.WorkLemmas.{untold-works}
 use Rattle.command_session.specs.Doing.{OpensNone}
 use Rattle.host_commands.proofs.HostLemmas.{kept-as}
 use Rattle.scp_commands.proofs.ObeyLemmas.{run-opens, untold-opens}
-use Rattle.scp_commands.proofs.ObeyLemmas.{run-is, run-told, run-no-listener, run-line, run-measured, run-works, run-note}
+use Rattle.scp_commands.proofs.ObeyLemmas.{run-no-untold, host-no-untold, run-is, run-told, run-no-listener, run-line, run-measured, run-works, run-note}
 use Rattle.scp_commands.proofs.ObeyLemmas.{host-is, host-line, host-works, host-counts, host-ran, host-stops, host-no-fault}
 use Rattle.scp_commands.proofs.ObeyLemmas.{untold-is, untold-measured, untold-note, untold-no-port, untold-no-fault, untold-ran, untold-stops}
 use Rattle.scp_commands.proofs.execute_command.obey_stateless.Goals as goal
@@ -108,6 +108,17 @@ returns-in-Host-clause-stop g c = host-no-fault c.obey_host.result c.obey_host.e
 
 pub returns-in-Untold-clause-told : goal.returns-in-Untold-clause-told
 returns-in-Untold-clause-told g c = λ told step whole first.
+    let s = c.args.session.now in
+    let new = c.obey_untold.new.session in
+    let ports = g.L.Lines.state c.args.lines.now in
+    let files = beyond (g.F.Files.state c.args.files.now).files ports whole in
+    let live = live_in s files in
+    did-as (λ own. effect s.limit own live c.args.command.now) (λ own. untold_effect live c.args.command.now) s.command c.obey_untold.result (live_in new files) g.S.Sink.tells
+    (output (g.S.Sink.written c.args.out.now) ports.sent) (output (g.S.Sink.written c.obey_untold.new.out) ports.sent) (notes_said s.notes) (notes_said new.notes)
+    (λ own. untold-is s.limit own live c.args.command.now (c.family_of.ensures.untold c.in-Untold.is)) (c.obey_untold.ensures.told files ports.sent)
+
+pub returns-in-Untold-clause-untold : goal.returns-in-Untold-clause-untold
+returns-in-Untold-clause-untold g c = λ untold whole.
     let s = c.args.session.now in
     let new = c.obey_untold.new.session in
     let ports = g.L.Lines.state c.args.lines.now in
@@ -213,3 +224,9 @@ returns-in-Untold-clause-grows g c =
     grows-did (λ own. untold_effect (live_in s files) c.args.command.now) s.command c.obey_untold.result (live_in new files) g.S.Sink.tells
     (output (g.S.Sink.written c.args.out.now) ports.sent) (output (g.S.Sink.written c.obey_untold.new.out) ports.sent) (notes_said s.notes) (notes_said new.notes)
     (λ is. (c.obey_untold.ensures.undone is g.F.Files.tells (g.F.Files.state c.args.files.now)).written) (c.obey_untold.ensures.told files ports.sent)
+
+pub returns-in-Run-clause-untold : goal.returns-in-Run-clause-untold
+returns-in-Run-clause-untold g c = λ untold. absurd (run-no-untold c.args.command.now (c.family_of.ensures.run c.in-Run.is) untold)
+
+pub returns-in-Host-clause-untold : goal.returns-in-Host-clause-untold
+returns-in-Host-clause-untold g c = λ untold. absurd (host-no-untold c.args.command.now (c.family_of.ensures.host c.in-Host.is) untold)
