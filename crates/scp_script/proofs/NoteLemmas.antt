@@ -4,6 +4,7 @@ use Rattle.std.proofs.Math.Seq.{take-append_seam}
 use Rattle.expect_actions.specs.Actions.{first_written}
 use Rattle.fault_counts.specs.Faults.{raised}
 use Rattle.observations.specs.Observations.{Observation, Trace, text_of, reads_of, sent_of}
+use Rattle.file_traits.specs.Lists.{NamedBytes}
 use Rattle.file_traits.specs.State.{FileState}
 use Rattle.unit_files.specs.Attachments.{Held}
 use Rattle.file_commands.specs.declared.note.Subject.{Subject}
@@ -267,11 +268,12 @@ ended-so (Some u) old new before after f = f
 
 -- the input has ended, and the units have lost their files, up to one that has kept it
 pub input-closed : (old new : Session) (k : Option UnitName) (before after : Output) (notes notes' : List Note) → old.texts ≡ texts_of [] [] → old.reads ≡ true → arrival old.budget old.open_ old.input ≡ InputEnds
-    → Closes old.spent old.live new.live k notes notes' → AreRead (line_reads old.budget old.open_ old.input) old.open_ old.input new.open_ new.input → after.console ≡ before.console ++ prompt_text old.prompt → after.heard ≡ before.heard
+    → (step : Type 0) → step → Closes step old.spent old.live new.live k notes notes' → AreRead (line_reads old.budget old.open_ old.input) old.open_ old.input new.open_ new.input → after.console ≡ before.console ++ prompt_text old.prompt → after.heard ≡ before.heard
     → Stepped (with_notes old) (IsOver (input_finish k)) (with_notes new) before after notes notes'
-input-closed old new k before after notes notes' none_open on e c reads written heard =
+input-closed old new k before after notes notes' none_open on e step now c reads written heard =
     let own = numbered old.spent c.own in
-    let closing = closed-own old c.own c.used ∙ ap (λ (x : Live). record { live = x; notes = [] }) (sym c.after) in
+    let left : new.live ≡ emptied_live (emptied_all c.own old.live) old.live = c.after ∙ ap (λ (files : List NamedBytes). record (emptied_live (emptied_all c.own old.live) old.live) { files = files }) (c.content now) in
+    let closing = closed-own old c.own c.used ∙ ap (λ (x : Live). record { live = x; notes = [] }) (sym left) in
     let over = input-ended (with_notes old (own ++ [])) (with_notes new []) k before after none_open on e (kept-own old c.own ∙ c.keeps) closing reads written heard in
     record {
       own = own;
