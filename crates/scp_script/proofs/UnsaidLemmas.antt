@@ -17,8 +17,9 @@ use Rattle.command_session.specs.DiskFile.{disk_alone, StaysWhereAlone}
 use Rattle.scp_script.specs.declared.progress.CommandLoop.{CommandLoop}
 use Rattle.scp_script.specs.declared.progress.Progress.TheVariants.{GoesOn}
 use Rattle.scp_script.specs.Session.{State, Session, state_of, rested, going_on, step}
-use Rattle.scp_script.specs.Loop.{session_of, Stepped, TakesFirst}
+use Rattle.scp_script.specs.Loop.{session_of, MayFollow, Stepped, TakesFirst}
 use Rattle.scp_script.specs.Perform.{SaysUpTo, SaysNoMore}
+use Rattle.scp_script.proofs.NoteLemmas.{none-follow}
 use Rattle.scp_script.proofs.WholeLemmas.{ComesSoFar, further, reads-behind}
 
 -- the text after which nothing is said
@@ -26,7 +27,7 @@ pub breaks : (start now next : List Note → Session) (before mid after : Output
     → ComesSoFar start now before mid notes notes' → Stepped now GoesOn next mid after notes' notes'' → SaysUpTo start (next []).input before after notes notes''
 breaks start now next before mid after notes notes' notes'' alone s st =
     let own = st.own ++ [] in
-    let may = record { behind = []; later = []; are = refl; closings = tt; follows = tt } in
+    let may : MayFollow (next []).spent (next []).live [] = none-follow (next []).spent (next []).live [] refl in
     let g = st.goes [] may in
     let r = s.comes own (st.first [] may) in
     record {
@@ -52,9 +53,16 @@ breaks start now next before mid after notes notes' notes'' alone s st =
 pub said-still : (start : List Note → Session) (left left' : List ℕ) (before mid after : Output) (notes notes' notes'' : List Note) (added : List ℕ) (kept : List Note) (n : ℕ)
     → mid.console ++ added ≡ after.console → notes'' ≡ notes' ++ kept → left' ≡ drop n left → SaysUpTo start left before mid notes notes' → SaysUpTo start left' before after notes notes''
 said-still start left left' before mid after notes notes' notes'' added kept n grows keeps drops s =
-    record s {
+    record {
+      own = s.own;
       later = s.later ++ kept;
       kept = keeps ∙ ap (λ l. l ++ kept) s.kept ∙ append_assoc notes (s.own ++ s.later) kept ∙ ap (λ l. notes ++ l) (append_assoc s.own s.later kept);
+      count = s.count;
+      done = s.done;
+      reached = s.reached;
+      comes = s.comes;
+      state = s.state;
+      last = s.last;
       more = s.more ++ added;
       written = sym grows ∙ ap (λ t. t ++ added) s.written ∙ append_assoc before.console (text_of (s.done ++ (step s.reached).made) ++ s.more) added
           ∙ ap (λ t. before.console ++ t) (append_assoc (text_of (s.done ++ (step s.reached).made)) s.more added);

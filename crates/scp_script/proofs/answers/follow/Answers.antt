@@ -70,9 +70,6 @@ returns-in-Goto-clause-grows g c =
 pub returns-in-Go-clause-grows : goal.returns-in-Go-clause-grows
 returns-in-Go-clause-grows g c = grows-same g.S.Sink.tells (g.S.Sink.written c.args.out.now) (g.S.Sink.written c.args.out.now) refl
 
-pub returns-in-Exit-clause-grows : goal.returns-in-Exit-clause-grows
-returns-in-Exit-clause-grows g c = grows-same g.S.Sink.tells (g.S.Sink.written c.args.out.now) (g.S.Sink.written c.args.out.now) refl
-
 pub returns-in-Ok-clause-grows : goal.returns-in-Ok-clause-grows
 returns-in-Ok-clause-grows g c = grows-same g.S.Sink.tells (g.S.Sink.written c.args.out.now) (g.S.Sink.written c.args.out.now) refl
 

@@ -25,7 +25,7 @@ use Rattle.command_session.specs.LinesLeft.{LinesLeft}
 use Rattle.nova_machine.proofs.LineSteps.{first-same, first-through}
 use Rattle.command_session.proofs.PortLemmas.{left-same, left-then}
 use Rattle.command_session.specs.Live.{CommandState, beyond}
-use Rattle.scp_script.specs.Loop.{AreKeptFor, session_of}
+use Rattle.scp_script.specs.Loop.{AreKeptFor, NumbersSuffice, session_of}
 use Rattle.scp_script.proofs.WholeLemmas.{ComesSoFar, begun, never-begun, over, causes-behind, kept-since}
 use Rattle.scp_script.proofs.UnsaidLemmas.{SaidUpTo, said-on, no-more, turned}
 use Rattle.scp_script.proofs.KeptLemmas.{kept-none, kept-both}
@@ -112,7 +112,7 @@ lines-preserved g c =
           let reads = λ (on : c.lines.texts.reads ≡ true). source (sym c.lines.invariant.reads ∙ on) in
           let apart-mid = λ (tells : IsTrue g.L.Lines.tells). (c.lines.invariant.lines.told tells (apart tells)).0 in
           let later = λ (tells : IsTrue g.L.Lines.tells). (c.in-GoesOn.ensures.ports.told tells (apart-mid tells)).1 in
-          let numbers = omega (arith, enough, c.lines.invariant.command, c.lines.invariant.paid) in
+          let numbers : NumbersSuffice c.lines.session.command c.lines.texts.budget = omega (arith, enough, c.lines.invariant.command, c.lines.invariant.paid) in
           let kept = c.in-GoesOn.ensures.keeps in
           subst (λ (x : CommandState). IsSaidOrNow begin g.L.Lines.tells x new.files ports' c.next_line.new.lines left' before after notes) (sym is)
           (⊎_elim
@@ -174,7 +174,7 @@ returns-in-IsOver-clause-told g c = λ enough source used apart sink step whole 
     let reads = λ (on : c.lines.texts.reads ≡ true). source (sym c.lines.invariant.reads ∙ on) in
     let apart-mid = λ (tells : IsTrue g.L.Lines.tells). (c.lines.invariant.lines.told tells (apart tells)).0 in
     let later = λ (tells : IsTrue g.L.Lines.tells). (c.in-IsOver.ensures.ports.told tells (apart-mid tells)).1 in
-    let numbers = omega (arith, enough, c.lines.invariant.command, c.lines.invariant.paid) in
+    let numbers : NumbersSuffice c.lines.session.command c.lines.texts.budget = omega (arith, enough, c.lines.invariant.command, c.lines.invariant.paid) in
     let kept = c.in-IsOver.ensures.keeps in
     ⊎_elim
     (λ (said : SaidUpTo begin g.L.Lines.tells ports-mid left before printed notes (notes_said c.lines.session.notes)).
