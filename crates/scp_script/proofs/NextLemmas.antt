@@ -1,10 +1,14 @@
 -- What a command has next: a script only where it is a DO, and an exit only where it is EXIT.
-use Rattle.std.proofs.Common.{◌≡◌, ℕ, ◌+◌, ◌<◌, ◌==◌, Bool, not, true, false, List, length, refl, sym, subst, Option, Some, None, Result, Ok, Err, if◌then◌else◌, nat_le, nat_lt, ◌&&◌}
-use Rattle.file_commands.specs.Notes.{CommandNote}
+use Rattle.std.proofs.Common.{◌≡◌, ℕ, ◌+◌, ◌<◌, ◌==◌, Bool, not, true, false, List, length, refl, sym, subst, Option, Some, None, Result, Ok, Err, if◌then◌else◌, nat_le, nat_lt, ◌&&◌, is_none}
+use Rattle.file_commands.specs.declared.note.Subject.TheVariants as subject
+use Rattle.file_commands.specs.Notes.{CommandNote, failure_now}
 use Rattle.unit_trait.specs.declared.kind.UnitName.{UnitName}
 use Rattle.host_lines.specs.Traffic.{Peer}
 use Rattle.telnet_lines.specs.Line.{LineOf}
+use Rattle.unit_files.specs.Acts.{DetachSaid, HadNone, StillHeld, Detached}
+use Rattle.unit_files.specs.Acts.{detach_said}
 use Rattle.nova_memory.specs.Memory.{fits_size}
+use Rattle.nova_machine.specs.Seen.{attached_in}
 use Rattle.operand_forms.specs.declared.listing.Listing.{Listing}
 use Rattle.operand_forms.specs.declared.listing.Test.{Test}
 use Rattle.scp_parser.specs.declared.command.Shown.{Shown}
@@ -25,8 +29,9 @@ use Rattle.command_session.specs.Nature.{IsUntold}
 use Rattle.command_session.specs.Answers.{CanAnswer, of_unit}
 use Rattle.command_session.specs.RunEffects.{reset_reply}
 use Rattle.plain_commands.specs.ListEffects.{lacks_device, examine_after, examine_reply, handed, deposit_after, deposit_reply}
-use Rattle.command_session.specs.LineEffects.{is_terminal, terminal_line, show_line}
-use Rattle.command_session.specs.FileEffects.{lacks_unit}
+use Rattle.command_session.specs.LineEffects.{is_terminal, terminal_line, with_port, detach_port_reply, show_line}
+use Rattle.command_session.specs.FileEffects.{lacks_unit, detach_one_or_all}
+use Rattle.command_session.specs.FileEffects.{detach_answer, detach_reply}
 use Rattle.expect_actions.specs.Expects.{most_expects}
 use Rattle.expect_actions.specs.Sends.{most_sends}
 use Rattle.command_session.specs.RunEffects.{last_address}
@@ -76,6 +81,24 @@ deposit_after-none None live l value = tt
 deposit-none : (live : Live) (l : Listing) (value : ℕ) → IsPlain (deposit_reply live l value).answer
 unfolding deposit_reply
 deposit-none live l value = none-if (lacks_device live.machine l.device) _ _ tt (deposit_after-none (fault_of_deposit live.machine l (handed value)) live l (handed value))
+
+detach_answer-none : (unit : UnitName) (said : DetachSaid) → IsPlain (detach_answer unit said)
+detach_answer-none unit HadNone = tt
+detach_answer-none unit (StillHeld f) = tt
+detach_answer-none unit (Detached f) = tt
+
+detach-none : (notes : List CommandNote) (live : Live) (unit : UnitName) → IsPlain (detach_reply notes live unit).answer
+unfolding detach_reply
+detach-none notes live unit =
+    none-if (lacks_unit live.machine unit) _ _ tt (detach_answer-none unit (detach_said (failure_now live.machine.time (subject.Unit unit) notes) unit (attached_in live.machine) live.machine.disk))
+
+with_port-none : (line : Option (LineOf Peer)) (reply : Reply) (live : Live) → IsPlain reply.answer → IsPlain (with_port line reply live).answer
+with_port-none None reply live none = tt
+with_port-none (Some line) reply live none = none-if (is_none line.port) _ _ tt none
+
+detach_port-none : (live : Live) → IsPlain (detach_port_reply live).answer
+unfolding detach_port_reply
+detach_port-none live = with_port-none (terminal_line live.lines) _ live tt
 
 show_line-none : (line : Option (LineOf Peer)) (live : Live) → IsPlain (show_line line live).answer
 show_line-none None live = tt
@@ -137,6 +160,10 @@ tested-none false (Err fault) = list-none fault
 assert-none : (live : Live) (test : Test) → IsPlain (assert_reply live test).answer
 unfolding assert_reply
 assert-none live test = tested-none (lacks_device live.machine test.device) (tested live.machine test)
+
+-- a unit loses its file, or the second teletype its port
+pub detach-plain : (notes : List CommandNote) (live : Live) (unit : UnitName) → IsPlain (detach_one_or_all notes live (Some unit)).answer
+detach-plain notes live unit = none-if (is_terminal unit) _ _ (detach_port-none live) (detach-none notes live unit)
 
 -- a command that works on no file and no line
 pub untold-plain : (limit : ℕ) (notes : List CommandNote) (live : Live) (r : Request) → IsUntold r → IsPlain (effect limit notes live r).answer
