@@ -115,7 +115,9 @@ ported (suc port) (line ∷ others) used v live one done = heard (listening live
 first-file : (files : List NamedBytes) (attached : List (Option Attachment)) (a : Attachment) → attachment_at attached disk_unit ≡ Some a
     → (rest : List FilePart) × (saved_files files attached file_places ≡ saved_file (place_of 0 0) a (bytes_of files a.name) ∷ rest)
 unfolding file_places kind_at
-first-file files attached a at = (_, ap (λ (o : Option Attachment). saved_at files (place_of 0 0) o ++ _) at)
+first-file files attached a at =
+    let rest = saved_files files attached (drop 1 file_places) in
+    (rest, ap (λ (o : Option Attachment). saved_at files (place_of 0 0) o ++ rest) at)
 
 -- where no file is refused, the first one is not
 first-kept : (fails : Option (UnitName × Failure)) (force : Bool) (f : FilePart) (fs : List FilePart) (attached : List (Option Attachment)) (files : List NamedBytes)
