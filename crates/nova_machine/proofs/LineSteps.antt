@@ -390,4 +390,5 @@ put-steps tells n byte s lines line there settled = record {
   parties = λ told. put-parties s byte line;
   idle = λ none. (refl, put-nobody byte line (settled.port none));
   grows = λ told. first-same (record_in s.told);
+  heard = λ told. hears-same s.sent;
 }
