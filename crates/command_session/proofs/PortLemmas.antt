@@ -15,7 +15,7 @@ use Rattle.telnet_lines.proofs.Apart.{is_or_not, same_kind, still_has, recorded_
 use Rattle.host_lines.specs.declared.lines.ListenFault.{ListenFault}
 use Rattle.host_lines.specs.declared.lines.ListenFault.TheVariants as listen
 use Rattle.nova_machine.specs.LineChanges.{ports_of, HasConnection, AreLinesTold, LinesGoOn}
-use Rattle.nova_machine.proofs.LineSteps.{lines-stay, first-same, first-through, no-ports-same}
+use Rattle.nova_machine.proofs.LineSteps.{lines-stay, first-same, first-through, hears-same, hears-equal, hears-then, no-ports-same}
 use Rattle.command_session.specs.LineEffects.{closed, closed_by, hung, hung_by, unported, hung_up}
 use Rattle.command_session.specs.LinesLeft.{HasPort, AreListened, LinesLeft, GivesUp, SeenAs, without_any, Listened}
 
@@ -74,6 +74,7 @@ left-same tells s lines = record {
   many = refl;
   listened = λ few all. all;
   told = λ tells apart. (apart, first-same (record_in s.told));
+  heard = λ tells. hears-same s.sent;
 }
 
 pub left-then : (tells : Bool) (s mid new : LineState) (before between after : List (LineOf ℕ))
@@ -94,6 +95,7 @@ left-then tells s mid new before between after one two = record {
       let first = one.told tells apart in
       let second = two.told tells first.0 in
       (second.0, first-through (record_in s.told) (record_in mid.told) (record_in new.told) first.1 second.1);
+  heard = λ tells. hears-then s.sent mid.sent new.sent (one.heard tells) (two.heard tells);
 }
 
 -- a run
@@ -110,6 +112,7 @@ left-run tells s new before after run = record {
   told = λ tells apart.
       let told = run.told (inl (tells, apart)) in
       (apart-of tells apart told.0, told.1);
+  heard = run.heard;
 }
   where
     apart-of : IsTrue tells → AreApart s before → AreLinesTold tells new after → AreApart new after
@@ -202,6 +205,7 @@ module _ (tells : Bool) (port : Option ℕ) (old new : LineState) (line after : 
       (stand_apart 0 old new (line ∷ others) line after refl apart (keeps tells)).apart,
       subst (λ (t : Told). IsFirst (record_in old.told) (record_in t)) (sym up.told) (first-same (record_in old.told)),
     );
+    heard = λ tells. hears-equal old.sent new.sent up.sent;
   }
 
 -- ---- the first of some lines
@@ -402,6 +406,7 @@ module _ (tells : Bool) (old new : LineState) (line : LineOf ℕ) (others : List
       (stand_apart 0 old new (line ∷ others) line (unconnected (Some port)) refl apart (keeps tells)).apart,
       (listened.told tells).grows,
     );
+    heard = λ tells. hears-equal old.sent new.sent listened.sent;
   }
     where
       by : (ls : List (LineOf ℕ)) → length (line ∷ ls) ≤ 1 → AreListened new (unconnected (Some port) ∷ ls)
@@ -431,6 +436,7 @@ module _ (tells : Bool) (old new : LineState) (line : LineOf ℕ) (others : List
     many = refl;
     listened = λ few all. listened-by old new (line ∷ others) (line ∷ others) listened.listens refl all;
     told = λ tells apart. told fault listened tells apart;
+    heard = λ tells. hears-equal old.sent new.sent listened.sent;
   }
     where
       counted : (fault : ListenFault) → old.faults ≤ listen_faults (Err fault) old.faults

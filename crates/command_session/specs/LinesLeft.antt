@@ -11,7 +11,7 @@ use Rattle.host_lines.specs.State.{LineState, IsListened, parties, without_one}
 use Rattle.telnet_lines.specs.Line.{LineOf, unconnected}
 use Rattle.telnet_lines.specs.Joined.{seen_line}
 use Rattle.telnet_lines.specs.Many.{AreApart}
-use Rattle.nova_machine.specs.LineChanges.{HasConnection}
+use Rattle.nova_machine.specs.LineChanges.{HasConnection, HearsOn}
 use Rattle.scp_parser.specs.Command.{Request, AttachPort, Restore}
 use Rattle.command_session.specs.declared.next.Next.TheVariants.{Go}
 use Rattle.command_session.specs.declared.fault.CommandFault.TheVariants.{OutOfMemory, OutOfRange, PortFailed, AlreadyAttached, NotAttached}
@@ -29,8 +29,8 @@ AreListened s lines = AllByRecursion (λ (line : LineOf ℕ). IfSome line.port (
 
 -- What a call leaves: each port that is listened on and each connection that stands is one that a line has, or was there
 -- before and no line's; the count of faults has not fallen. Where the machine has one line at the most, its port is listened
--- on if it was before. Where the outside tells what comes, and no two lines have one connection, it goes on to, and a record of
--- answers has grown at its end.
+-- on if it was before. Where the outside tells what comes, what callers had heard stays in front of what they hear then; and
+-- where no two lines have one connection, none have then, and a record of answers has grown at its end.
 pub record LinesLeft (tells : Bool) (old : LineState) (before : List (LineOf ℕ)) (new : LineState) (after : List (LineOf ℕ)) : Type 0 where
   pub ports : (port : ℕ) → IsTrue (new.listens port) → HasPort port after ⊎ (IsTrue (old.listens port) × (¬ HasPort port before))
   pub owned : (conn : ℕ) → IsTrue (new.stands conn) → HasConnection conn after ⊎ (IsTrue (old.stands conn) × (¬ HasConnection conn before))
@@ -38,6 +38,7 @@ pub record LinesLeft (tells : Bool) (old : LineState) (before : List (LineOf ℕ
   pub many : length after ≡ length before
   pub listened : length before ≤ 1 → AreListened old before → AreListened new after
   pub told : IsTrue tells → AreApart old before → AreApart new after × IsFirst (record_in old.told) (record_in new.told)
+  pub heard : IsTrue tells → HearsOn old.sent new.sent
 
 -- ---- giving up a port and a connection
 

@@ -27,7 +27,7 @@ in-room n f b =
     ∙ ap (λ (l : List ℕ). take (min (length f) n) f ++ l) (sym (take_min (n - min (length f) n) b) ∙ ap (λ (k : ℕ). take k b) other)
     ∙ taken_of_both n f b
 
-both-heard : (h : Heard) (a b : List Sent) → heard_more (heard_more h a) b ≡ heard_more h (a ++ b)
+pub both-heard : (h : Heard) (a b : List Sent) → heard_more (heard_more h a) b ≡ heard_more h (a ++ b)
 both-heard (Named sent) a b = ap Named (append_assoc sent a b)
 both-heard (Unnamed room bytes) a b =
     let n = room - length bytes in

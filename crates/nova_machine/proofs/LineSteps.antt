@@ -2,7 +2,7 @@
 use Rattle.std.proofs.Common.{◌≡◌, ◌≢◌, ◌⊎◌, ◌∙◌, ap, sym, refl, subst, inl, inr, arith, ℕ, Bool, true, false, IsTrue, List, [], ◌∷◌, ◌++◌, append_assoc, append-nil, map, length, nat_le, ◌&&◌, if◌then◌else◌, zero, suc, slice_get, slice_set, Option, Some, None, is_some, option_map}
 use Rattle.std.proofs.lemmas.Option.{same_Some, slice_get-map}
 use Rattle.host_lines.specs.Traffic.{Peer, Answer, Ahead}
-use Rattle.host_lines.specs.Told.{IsFirst, record_in, ahead_of}
+use Rattle.host_lines.specs.Told.{Heard, heard_more, IsFirst, record_in, ahead_of}
 use Rattle.host_lines.specs.State.{LineState}
 use Rattle.telnet_lines.specs.Line.{LineOf, IsSettled, line_of, unconnected, is_full, full_output, put_on}
 use Rattle.telnet_lines.specs.Telnet.{coded}
@@ -16,8 +16,9 @@ use Rattle.telnet_lines.proofs.Apart.{is_or_not, same_kind}
 use Rattle.unit_trait.specs.declared.calls.Want.{Want}
 use Rattle.unit_trait.specs.declared.calls.Want.TheVariants as want
 use Rattle.unit_trait.specs.declared.calls.Got.TheVariants as got
+use Rattle.nova_machine.proofs.Hearing.{both-heard}
 use Rattle.nova_machine.specs.OnLines.{Lined, lined, lined_by, got_of_line, put_line, put_got}
-use Rattle.nova_machine.specs.LineChanges.{ports_of, HaveNoPort, HasConnection, AreLinesTold, LinesGoOn, DoneOnLine}
+use Rattle.nova_machine.specs.LineChanges.{ports_of, HaveNoPort, HasConnection, AreLinesTold, HearsOn, LinesGoOn, DoneOnLine}
 
 -- ---- records of answers
 
@@ -26,6 +27,23 @@ first-same answers = ([], sym (append-nil answers))
 
 pub first-through : (a b c : List Answer) → IsFirst a b → IsFirst b c → IsFirst a c
 first-through a b c one two = (one.0 ++ two.0, two.1 ∙ ap (λ (l : List Answer). l ++ two.0) one.1 ∙ append_assoc a one.0 two.0)
+
+-- ---- what is heard
+
+pub hears-same : (h : Heard) → HearsOn h h
+hears-same h = ([], sym (nothing_heard h))
+
+pub hears-equal : (a b : Heard) → b ≡ a → HearsOn a b
+hears-equal a b same = ([], same ∙ sym (nothing_heard a))
+
+pub hears-then : (a b c : Heard) → HearsOn a b → HearsOn b c → HearsOn a c
+hears-then a b c one two = (one.0 ++ two.0, two.1 ∙ ap (λ (h : Heard). heard_more h two.0) one.1 ∙ both-heard a one.0 two.0)
+
+-- what a poll sends is heard behind what was
+pub hears-poll : (now : ℕ) (key : Option ℕ) (old new : LineState) (before after : LineOf ℕ) → Polls now key old before new after → HearsOn old.sent new.sent
+hears-poll now key old new before after polls =
+    let whole = record_in new.told in
+    ((polled now (seen_line old before) (ahead_of old.told whole)).sent, polls.heard whole (first-same whole))
 
 -- ---- calls one behind another
 
@@ -48,6 +66,7 @@ lines-stay tells s lines = record {
   later = omega arith;
   idle = λ none. (refl, refl);
   told = λ told. (told, first-same (record_in s.told));
+  heard = λ tells. hears-same s.sent;
 }
 
 pub no-ports-same : (before after : List (LineOf ℕ)) → ports_of after ≡ ports_of before → HaveNoPort before → HaveNoPort after
@@ -77,6 +96,7 @@ lines-then tells s mid new before between after one two = record {
       let first = one.told told in
       let second = two.told first.0 in
       (second.0, first-through (record_in s.told) (record_in mid.told) (record_in new.told) first.1 second.1);
+  heard = λ is. hears-then s.sent mid.sent new.sent (one.heard is) (two.heard is);
 }
 
 -- ---- one line of several
@@ -123,6 +143,7 @@ pub record StepsAt (tells : Bool) (i : ℕ) (old : LineState) (lines : List (Lin
   pub parties : IsTrue tells → KeepsParties old before new after
   pub idle : before.port ≡ None → (new ≡ old) × (after ≡ before)
   pub grows : IsTrue tells → IsFirst (record_in old.told) (record_in new.told)
+  pub heard : IsTrue tells → HearsOn old.sent new.sent
 
 pub one-goes-on : (tells : Bool) (i : ℕ) (old : LineState) (lines : List (LineOf ℕ)) (before : LineOf ℕ) (new : LineState) (after : LineOf ℕ)
     → StepsAt tells i old lines before new after → LinesGoOn tells old lines new (slice_set lines i after)
@@ -151,6 +172,7 @@ one-goes-on tells i old lines before new after step =
               subst (λ (x : LineState). IsFirst (record_in old.told) (record_in x.told)) (sym still.0) (first-same (record_in old.told)),
             )
       ];
+      heard = step.heard;
     }
 
 -- ---- what was done on a line
@@ -368,4 +390,5 @@ put-steps tells n byte s lines line there settled = record {
   parties = λ told. put-parties s byte line;
   idle = λ none. (refl, put-nobody byte line (settled.port none));
   grows = λ told. first-same (record_in s.told);
+  heard = λ told. hears-same s.sent;
 }

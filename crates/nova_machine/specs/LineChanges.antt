@@ -28,9 +28,13 @@ HasConnection conn (line ∷ lines) = (line.connection ≡ Some conn) ⊎ HasCon
 abbrev pub AreLinesTold : Bool → LineState → List (LineOf ℕ) → Type 0
 AreLinesTold tells s lines = (IsTrue tells × AreApart s lines) ⊎ HaveNoPort lines
 
+-- callers have heard what they had, and maybe more behind it
+abbrev pub HearsOn : Heard → Heard → Type 0
+HearsOn before after = (more : List Sent) × (after ≡ heard_more before more)
+
 -- What a call leaves: ports are listened on as before, and each line has its port; each connection that stands is one that
 -- a line has, or stood before and was no line's; the count of faults has not fallen. Where no line has a port, nothing was
--- asked of the outside. What is told stays told, and a record of answers grows at its end.
+-- asked of the outside. What is told stays told, a record of answers grows at its end, and what was heard stays so.
 pub record LinesGoOn (tells : Bool) (old : LineState) (before : List (LineOf ℕ)) (new : LineState) (after : List (LineOf ℕ)) : Type 0 where
   pub listens : new.listens ≡ old.listens
   pub ports : ports_of after ≡ ports_of before
@@ -38,6 +42,7 @@ pub record LinesGoOn (tells : Bool) (old : LineState) (before : List (LineOf ℕ
   pub later : old.faults ≤ new.faults
   pub idle : HaveNoPort before → (new ≡ old) × (after ≡ before)
   pub told : AreLinesTold tells old before → AreLinesTold tells new after × IsFirst (record_in old.told) (record_in new.told)
+  pub heard : IsTrue tells → HearsOn old.sent new.sent
 
 -- bytes that were observed, each with its caller, and what callers have heard with these
 abbrev pub named : ℕ × ℕ → Sent

@@ -9,7 +9,7 @@ use Rattle.unit_list.specs.Bus.{kinds_of}
 use Rattle.nova_machine.specs.Machine.{MachineState}
 use Rattle.nova_machine.specs.OnLines.{lined}
 use Rattle.nova_machine.specs.LineChanges.{AreLinesTold, LinesGoOn, DoneOnLine}
-use Rattle.nova_machine.proofs.LineSteps.{StepsAt, lines-stay, one-goes-on, done-no-key, done-poll}
+use Rattle.nova_machine.proofs.LineSteps.{StepsAt, lines-stay, one-goes-on, done-no-key, done-poll, hears-poll}
 use Rattle.nova_machine.proofs.LinesThere.{set-has}
 use Rattle.nova_machine.proofs.machine.Machine.key_of_line.Goals as goal
 
@@ -39,6 +39,7 @@ returns-clause-lines g c =
       parties = poll.parties;
       idle = λ none. let still = poll.idle none in (ap g.L.Lines.state still.3, still.2);
       grows = λ tells. (poll.told tells).grows;
+      heard = λ tells. hears-poll _ _ old new line c.poll-key.new.self (poll.told tells);
     } in
     subst (λ (x : List (LineOf ℕ)). LinesGoOn g.L.Lines.tells old x new (slice_set ls n c.poll-key.new.self)) is
     (one-goes-on g.L.Lines.tells n old ls line new c.poll-key.new.self step)
@@ -64,6 +65,7 @@ returns-clause-told g c = λ told whole first.
       parties = poll.parties;
       idle = λ none. let still = poll.idle none in (ap g.L.Lines.state still.3, still.2);
       grows = λ tells. (poll.told tells).grows;
+      heard = λ tells. hears-poll _ _ old new line after (poll.told tells);
     } in
     let told-of : AreLinesTold g.L.Lines.tells old ls = subst (λ (x : List (LineOf ℕ)). AreLinesTold g.L.Lines.tells old x) (sym is) told in
     let done = done-poll g.L.Lines.tells c.self.inside.time n old new ls line after c.poll-key.result whole step poll.told (λ none. let still = poll.idle none in (still.0, still.1)) told-of first in
