@@ -4,7 +4,7 @@ use Rattle.host_lines.specs.Traffic.{Answer as LineAnswer}
 use Rattle.file_commands.specs.Notes.{Note}
 use Rattle.command_session.specs.Live.{Live, CommandState, Beyond, live_in}
 use Rattle.nova_machine.specs.Comes.{Output}
-use Rattle.nova_machine.specs.LineChanges.{heard_with}
+use Rattle.nova_machine.specs.LineChanges.{heard_with, HearsOn}
 use Rattle.scp_script.specs.declared.perform_session.Opening.{Opening}
 use Rattle.scp_script.specs.declared.progress.Finish.{Finish}
 use Rattle.scp_script.specs.declared.progress.Finish.TheVariants.{OutOfMemory}
@@ -70,8 +70,9 @@ pub record Performed (start : List Note → Session) (finish : Finish) (live : L
   pub is : IsPerformed (start own) finish live left before after
 
 -- A session that came in so many texts, and one more, to where something beside the disk had changed the disk's file, with the
--- first of the notes that were kept: all up to there was printed and read, and nothing is said of what came behind that.
-pub record SaysUpTo (start : List Note → Session) (left : List ℕ) (before after : Output) (notes notes' : List Note) : Type 0 where
+-- first of the notes that were kept: all up to there was printed and read, and sent where lines tell theirs, and nothing is said
+-- of what came behind that.
+pub record SaysUpTo (start : List Note → Session) (tells : Bool) (left : List ℕ) (before after : Output) (notes notes' : List Note) : Type 0 where
   pub own : List Note
   pub later : List Note
   pub kept : notes' ≡ notes ++ (own ++ later)
@@ -83,6 +84,7 @@ pub record SaysUpTo (start : List Note → Session) (left : List ℕ) (before af
   pub last : (step reached).next ≡ Over NothingSaid state
   pub more : List ℕ
   pub written : after.console ≡ before.console ++ (text_of (done ++ (step reached).made) ++ more)
+  pub heard : IsTrue tells → HearsOn (heard_with before.heard (sent_of (done ++ (step reached).made))) after.heard
   pub made : ℕ
   pub rest : left ≡ drop (reads_of (done ++ (step reached).made) + made) (start own).input
 
@@ -90,4 +92,4 @@ pub record SaysUpTo (start : List Note → Session) (left : List ℕ) (before af
 pub record SaysNoMore (start : List LineAnswer → List Note → Session) (tells : Bool) (whole : List LineAnswer) (left : List ℕ) (before after : Output) (notes notes' : List Note) : Type 0 where
   pub recorded : List LineAnswer
   pub same : IsTrue tells → recorded ≡ whole
-  pub says : SaysUpTo (start recorded) left before after notes notes'
+  pub says : SaysUpTo (start recorded) tells left before after notes notes'

@@ -118,7 +118,7 @@ lines-preserved g c =
           (⊎_elim
           (λ (said : SaidUpTo begin g.L.Lines.tells ports-mid left before printed notes (notes_said c.lines.session.notes)).
           inl (said-on begin g.L.Lines.tells ports-mid ports' left left' before printed after notes (notes_said c.lines.session.notes) (notes_said done.notes) (notes_said kept.kept) later (c.in-GoesOn.ensures.grows sink)
-          (ap notes_said kept.added ∙ said-append c.lines.session.notes kept.kept) (c.in-GoesOn.ensures.drops reads) said))
+          (ap notes_said kept.added ∙ said-append c.lines.session.notes kept.kept) (c.in-GoesOn.ensures.drops reads) (λ tells. c.in-GoesOn.ensures.ports.heard tells) said))
           (λ (now : IsNow begin c.lines.session mid_files ports-mid c.lines.texts left before printed notes).
           let next = λ (w : List LineAnswer) (at : IsFirst (record_in ports-mid.told) w).
           next-told g.F.Files.tells g.L.Lines.tells begin w (session_of c.lines.session (beyond mid_files ports-mid w) c.lines.texts left) before printed notes (notes_said c.lines.session.notes) used (now.1 w at) in
@@ -180,7 +180,7 @@ returns-in-IsOver-clause-told g c = λ enough source used apart sink step whole 
     (λ (said : SaidUpTo begin g.L.Lines.tells ports-mid left before printed notes (notes_said c.lines.session.notes)).
     inl (no-more begin g.L.Lines.tells ports' whole left' before after notes (notes_said done.notes) begins
     (said-on begin g.L.Lines.tells ports-mid ports' left left' before printed after notes (notes_said c.lines.session.notes) (notes_said done.notes) (notes_said kept.kept) later (c.in-IsOver.ensures.grows sink)
-    (ap notes_said kept.added ∙ said-append c.lines.session.notes kept.kept) (c.in-IsOver.ensures.drops reads) said)))
+    (ap notes_said kept.added ∙ said-append c.lines.session.notes kept.kept) (c.in-IsOver.ensures.drops reads) (λ tells. c.in-IsOver.ensures.ports.heard tells) said)))
     (λ (now : IsNow begin c.lines.session mid_files ports-mid c.lines.texts left before printed notes).
     let next = λ (w : List LineAnswer) (at : IsFirst (record_in ports-mid.told) w).
     next-told g.F.Files.tells g.L.Lines.tells begin w (session_of c.lines.session (beyond mid_files ports-mid w) c.lines.texts left) before printed notes (notes_said c.lines.session.notes) used (now.1 w at) in
