@@ -3,6 +3,7 @@ use Rattle.std.specs.Prelude.{None, Ok}
 use Rattle.std.specs.List.{AllByRecursion}
 use Rattle.std.proofs.Common.{◌≡◌, ◌≢◌, ℕ, zero, suc, Bool, true, false, Option, Some, if◌then◌else◌, List, [], ◌++◌, length, drop, refl, ap, sym, ◌∙◌, subst, arith, append_assoc, append-nil}
 use Rattle.std.proofs.Math.Seq.{drop-nil}
+use Rattle.std.proofs.lemmas.Option.{same_Some}
 use Rattle.file_traits.specs.Lists.{NamedBytes, bytes_of}
 use Rattle.observations.specs.Observations.{Observation, Trace, after_made, map_made, text_of, reads_of, sent_of}
 use Rattle.observations.specs.Cut.{Outcome, cut_trace}
@@ -25,6 +26,7 @@ use Rattle.command_session.specs.Live.{Live}
 use Rattle.command_session.specs.Reply.{Reply}
 use Rattle.state_commands.specs.StateEffects.{flushed_with}
 use Rattle.command_session.specs.Asked.{Asked}
+use Rattle.command_session.specs.DiskFile.{disk_alone}
 use Rattle.scp_commands.specs.Effect.{effect, does}
 use Rattle.command_laws.specs.Resumption.{done_with, left_by_save, continued, saved_among, HasNobody, HaveLengths, IsAtRest, HoldsSaved}
 use Rattle.command_laws.proofs.ResumptionLemmas.{restore-puts-back}
@@ -32,7 +34,7 @@ use Rattle.scp_script.specs.declared.progress.Finish.{Finish}
 use Rattle.scp_script.specs.declared.progress.Finish.TheVariants.{Exit, EndOfInput, FlushFailed, Commands, Console, Input, OutOfMemory}
 use Rattle.session_texts.specs.Scripts.{settled}
 use Rattle.session_texts.specs.Actions.{Texts, texts_behind}
-use Rattle.scp_script.specs.Session.{State, Session, Step, Going, following, rested, state_at, asking, with_complaint, text_reply, text_step, step, Course, course, trace, ComesTo}
+use Rattle.scp_script.specs.Session.{State, Session, Step, Following, Going, going_on, following, rested, state_at, asking, with_complaint, text_reply, text_step, step, Course, course, trace, ComesTo}
 use Rattle.script_laws.specs.Core.{Core, SameCore, NoneFails}
 use Rattle.scp_script.specs.Loop.{EndsAs, status_of, finish_of}
 use Rattle.scp_script.specs.Perform.{IsSession, IsPerformed}
@@ -118,7 +120,7 @@ same-core-same-finish s t finish other x y rest left before after front behind s
     let input : s.input ≡ t.input = ap (λ (c : Core). c.input) same in
     let made : a.made ≡ b.made = first.reads_are ∙ ap (λ (z : Trace State). reads_of z.made) traces ∙ sym second.reads_are in
     record {
-      finishes = a.named (not-console finish low) (not-input finish low) ∙ ap (λ (c : Course). finish_of c.end) courses ∙ sym (b.named (not-console other deep) (not-input other deep));
+      finishes = same_Some finish other (a.named (not-console finish low) (not-input finish low) ∙ ap (λ (c : Course). finish_of c.end) courses ∙ sym (b.named (not-console other deep) (not-input other deep)));
       states = ap (λ (z : State). z.live) (first.state_is ∙ ap (λ (z : Trace State). z.ended.state) traces ∙ sym second.state_is);
       rests = a.rest ∙ ap (λ (n : ℕ). drop n s.input) made ∙ ap (drop b.made) input ∙ sym b.rest;
       added = text_of (trace s).made;
@@ -135,7 +137,7 @@ same-core-same-finish s t finish other x y rest left before after front behind s
 step-of : (made : List (Observation State)) (behind : Session) (what : Asked) (reply : Reply) → text_reply behind.limit behind.texts (handed behind.spent behind.notes) behind.live what ≡ reply
     → text_step made behind what ≡ record {
       made = made ++ map_made (state_at behind.notes) reply.made;
-      next = following reply.answer (record behind {
+      next = following reply.answer (disk_alone behind.live reply.after.live) (record behind {
         live = reply.after.live;
         notes = drop reply.after.used behind.notes;
         texts = texts_behind behind.texts what reply.answer reply.after.live.watch;
@@ -145,15 +147,15 @@ unfolding text_step
 step-of made behind what reply is =
     ap (λ (r : Reply). record {
       made = made ++ map_made (state_at behind.notes) r.made;
-      next = following r.answer (record behind { live = r.after.live; notes = drop r.after.used behind.notes; texts = texts_behind behind.texts what r.answer r.after.live.watch });
+      next = following r.answer (disk_alone behind.live r.after.live) (record behind { live = r.after.live; notes = drop r.after.used behind.notes; texts = texts_behind behind.texts what r.answer r.after.live.watch });
     }) is
 
 -- the same of one that is done and prints nothing
 step-done : (made : List (Observation State)) (behind : Session) (what : Asked) (used : ℕ) (live : Live) → text_reply behind.limit behind.texts (handed behind.spent behind.notes) behind.live what ≡ done_with used live
-    → text_step made behind what ≡ record { made = made; next = Going (rested (record behind { live = live; notes = drop used behind.notes })) }
+    → text_step made behind what ≡ record { made = made; next = going_on (disk_alone behind.live live) (rested (record behind { live = live; notes = drop used behind.notes })) }
 step-done made behind what used live is =
     step-of made behind what (done_with used live) is
-    ∙ ap (λ (l : List (Observation State)). record { made = l; next = Going (rested (record behind { live = live; notes = drop used behind.notes })) }) (append-nil made)
+    ∙ ap (λ (l : List (Observation State)). record { made = l; next = going_on (disk_alone behind.live live) (rested (record behind { live = live; notes = drop used behind.notes })) }) (append-nil made)
 
 -- a command that is done with nothing to say, as a text
 said-restore : (limit : ℕ) (t : Texts) (notes : List CommandNote) (live now : Live) (force : Bool) (name : List ℕ) (used : ℕ) → effect limit notes live (Restore force name) ≡ done_with used now
@@ -175,9 +177,12 @@ step-back at behind s used valid back =
     let r = back.restores in
     let line = (comes-valid at r.line behind valid r.comes).line in
     let what : Asked = Ok (Restore back.force back.name) in
-    let is = restore-puts-back.restored behind.limit (handed behind.spent behind.notes) behind.live s back.force back.name back.then_files used r.done back.holds back.files line in
+    let notes = handed behind.spent behind.notes in
+    let is = restore-puts-back.restored behind.limit notes behind.live s back.force back.name back.then_files used r.done back.holds back.files line in
+    let alone = restore-puts-back.alone behind.limit notes behind.live s back.force back.name back.then_files used r.done back.holds back.files line in
     step-comes at behind r.line what r.comes r.command
-    ∙ step-done (asking at) behind what used (continued s behind.live) (said-restore behind.limit behind.texts (handed behind.spent behind.notes) behind.live (continued s behind.live) back.force back.name used is)
+    ∙ step-done (asking at) behind what used (continued s behind.live) (said-restore behind.limit behind.texts notes behind.live (continued s behind.live) back.force back.name used is)
+    ∙ ap (λ (b : Bool). record { made = asking at; next = going_on b (rested (resumed s used behind)) }) alone
     ∙ ap (λ (t : Session). record { made = asking at; next = Going t }) (rested-already s used behind back.holds.rest.watch)
 
 comes-more : (count : ℕ) (s t u : Session) (made : List (Observation State)) → ComesTo count s made t → (step t).next ≡ Going u → ComesTo (suc count) s (made ++ (step t).made) u
@@ -234,13 +239,21 @@ restored-goes-on = record {
 
 -- ---- a session that was saved, and goes on
 
-step-save : (at behind : Session) (name : List ℕ) → Saves at behind name → step at ≡ record { made = asking at; next = Going (behind_save name behind) }
+step-save : (at behind : Session) (name : List ℕ) → Saves at behind name
+    → step at ≡ record { made = asking at; next = going_on (disk_alone behind.live (left_by_save name behind.live)) (behind_save name behind) }
 step-save at behind name saves =
     let now = left_by_save name behind.live in
     let none : effect behind.limit (handed behind.spent behind.notes) behind.live (Save name) ≡ done_with 0 now =
     ap (λ (notes : List Note). effect behind.limit (handed behind.spent notes) behind.live (Save name)) saves.none ∙ restore-puts-back.saved behind.limit behind.live name in
     step-comes at behind saves.line (Ok (Save name)) saves.comes saves.command
     ∙ step-done (asking at) behind (Ok (Save name)) 0 now (said-save behind.limit behind.texts (handed behind.spent behind.notes) behind.live now name 0 none)
+
+-- where it goes on
+step-saved : (at behind : Session) (name : List ℕ) → Saves at behind name → (step at).next ≡ Going (behind_save name behind)
+    → step at ≡ record { made = asking at; next = Going (behind_save name behind) }
+step-saved at behind name saves goes =
+    let is = step-save at behind name saves in
+    is ∙ ap (λ (next : Following). record { made = asking at; next = next }) (sym (ap (λ (x : Step). x.next) is) ∙ goes)
 
 -- what is saved has no actions of a stop
 watch-saved : (w : WatchState) → saved_watch (forgotten w) ≡ saved_watch w
@@ -261,15 +274,17 @@ written-back (Some a) disk files copy = by (is_due_back disk_unit disk)
     by false = refl
 
 -- what a SAVE leaves is at rest
-rest-saved : (saving behind : Session) (name : List ℕ) → ValidSession saving → Saves saving behind name → AllByRecursion HasNobody behind.live.lines → DiskIsItsFile (behind_save name behind).live
+rest-saved : (saving behind : Session) (name : List ℕ) → ValidSession saving → DiskIsItsFile saving.live → (step saving).next ≡ Going (behind_save name behind) → AllByRecursion HasNobody behind.live.lines
     → IsAtRest (behind_save name behind).live
-rest-saved saving behind name valid saves nobody copy = record {
-  session = (sessions-stay-valid.next saving (behind_save name behind) valid (ap (λ (x : Step). x.next) (step-save saving behind name saves))).live;
-  nobody = nobody;
-  copy = copy;
-  written = written-back (attachment_at (attached_in behind.live.machine) disk_unit) behind.live.machine.disk (behind_save name behind).live.files copy;
-  watch = refl;
-}
+rest-saved saving behind name valid held goes nobody =
+    let copy = sessions-stay-valid.disk saving (behind_save name behind) valid goes held in
+    record {
+      session = (sessions-stay-valid.next saving (behind_save name behind) valid goes).live;
+      nobody = nobody;
+      copy = copy;
+      written = written-back (attachment_at (attached_in behind.live.machine) disk_unit) behind.live.machine.disk (behind_save name behind).live.files copy;
+      watch = refl;
+    }
 
 holds-saved : (behind : Session) (name : List ℕ) (files : List NamedBytes) → IsAtRest (behind_save name behind).live → HaveLengths (flushed_with None behind.live).files
     → files ≡ (behind_save name behind).live.files → HoldsSaved files (flushed_with None behind.live).files name (behind_save name behind).live
@@ -282,14 +297,14 @@ holds-saved behind name files rest lengths same =
       bytes = ap (λ (l : List NamedBytes). bytes_of l name) same ∙ restore-puts-back.holds behind.live name ∙ ap (λ (v : SavedState). text v) (sym is);
     }
 
-restores-saved : (saving behind restoring present : Session) (name : List ℕ) (used : ℕ) → ValidSession saving → SavedAndRestored saving behind restoring present name used
+restores-saved : (saving behind restoring present : Session) (name : List ℕ) (used : ℕ) → ValidSession saving → DiskIsItsFile saving.live → SavedAndRestored saving behind restoring present name used
     → RestoresSaved restoring present (behind_save name behind).live used
-restores-saved saving behind restoring present name used valid both = record {
+restores-saved saving behind restoring present name used valid held both = record {
   force = both.force;
   name = name;
   then_files = (flushed_with None behind.live).files;
   restores = both.restores;
-  holds = holds-saved behind name present.live.files (rest-saved saving behind name valid both.saves both.nobody both.copy) both.lengths both.outside.files;
+  holds = holds-saved behind name present.live.files (rest-saved saving behind name valid held both.goes both.nobody) both.lengths both.outside.files;
   files = both.outside.files;
 }
 
@@ -327,9 +342,9 @@ all-saved saving behind restoring present name used both =
     same-core-same-future.all (behind_save name behind) (resumed (behind_save name behind).live used present) (core-saved saving behind restoring present name used both)
     both.saves.none (none-saved saving behind restoring present name used both)
 
-pub saves-come : (count : ℕ) (start at behind : Session) (name : List ℕ) (front : List (Observation State)) → ComesTo count start front at → Saves at behind name
+pub saves-come : (count : ℕ) (start at behind : Session) (name : List ℕ) (front : List (Observation State)) → ComesTo count start front at → Saves at behind name → (step at).next ≡ Going (behind_save name behind)
     → ComesTo (suc count) start (front ++ asking at) (behind_save name behind)
-saves-come count start at behind name front comes saves = comes-on count start at (behind_save name behind) front comes (step-save at behind name saves)
+saves-come count start at behind name front comes saves goes = comes-on count start at (behind_save name behind) front comes (step-saved at behind name saves goes)
 
 pub traces-saved : (saving behind restoring present : Session) (name : List ℕ) (used : ℕ) → SavedAndRestored saving behind restoring present name used
     → trace (behind_save name behind) ≡ trace (resumed (behind_save name behind).live used present)
@@ -352,16 +367,16 @@ end-alike front begin s t status other before after start end x y same one two =
 pub saved-and-restored-go-on-alike : SavedAndRestoredGoOnAlike
 saved-and-restored-go-on-alike = record {
   saves = step-save;
-  restores = λ saving behind restoring present name used valid fresh both. restores-saved saving behind restoring present name used valid both;
+  restores = λ saving behind restoring present name used valid held fresh both. restores-saved saving behind restoring present name used valid held both;
   core = core-saved;
   none = none-saved;
   all = all-saved;
-  ended = λ count many start saving behind other restoring present name used front begin status gives made status' gives' made' before after before' after' x y valid fresh comes more both end end' no_byte no_read no_byte' no_read'.
+  ended = λ count many start saving behind other restoring present name used front begin status gives made status' gives' made' before after before' after' x y valid held fresh comes more both end end' no_byte no_read no_byte' no_read'.
       let s = (behind_save name behind).live in
       end-alike (front ++ asking saving) (begin ++ asking restoring) (behind_save name behind) (resumed s used present) status status' before after before' after' x y
       (traces-saved saving behind restoring present name used both)
-      (end-behind (suc count) start (behind_save name behind) (front ++ asking saving) status gives made before after x (saves-come count start saving behind name front comes both.saves) end no_byte no_read)
+      (end-behind (suc count) start (behind_save name behind) (front ++ asking saving) status gives made before after x (saves-come count start saving behind name front comes both.saves both.goes) end no_byte no_read)
       (end-behind (suc many) other (resumed s used present) (begin ++ asking restoring) status' gives' made' before' after' y
       (restored-comes many other restoring present s used begin fresh more
-      (restores-saved saving behind restoring present name used (sessions-stay-valid.all count start saving front valid comes) both)) end' no_byte' no_read');
+      (restores-saved saving behind restoring present name used (sessions-stay-valid.all count start saving front valid comes) (sessions-stay-valid.disk_all count start saving front valid held comes) both)) end' no_byte' no_read');
 }

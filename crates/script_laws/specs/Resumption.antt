@@ -10,13 +10,14 @@ use Rattle.nova_machine.specs.Valid.{DiskIsItsFile}
 use Rattle.state_transfer.specs.Session.{saved_port}
 use Rattle.scp_parser.specs.Command.{Save, Restore}
 use Rattle.command_session.specs.Live.{Live}
+use Rattle.command_session.specs.DiskFile.{disk_alone}
 use Rattle.state_commands.specs.StateEffects.{flushed_with}
 use Rattle.command_session.specs.Asked.{asked}
 use Rattle.command_laws.specs.Resumption.{left_by_save, ahead_behind, continued, HasNobody, HaveLengths, HoldsSaved, IsRestored}
 use Rattle.scp_script.specs.declared.progress.Finish.{Finish}
 use Rattle.scp_script.specs.declared.progress.Finish.TheVariants.{Exit, Console, Input, OutOfMemory}
 use Rattle.session_texts.specs.Actions.{texts_of}
-use Rattle.scp_script.specs.Session.{State, Session, Going, Comes, upcoming, asking, rested, step, course, trace, ComesTo}
+use Rattle.scp_script.specs.Session.{State, Session, Going, Comes, upcoming, asking, rested, going_on, step, course, trace, ComesTo}
 use Rattle.script_laws.specs.Valid.{ValidSession}
 use Rattle.script_laws.specs.Core.{SameCore, NoneFails, after_all}
 use Rattle.scp_script.specs.Loop.{EndsAs}
@@ -126,14 +127,13 @@ pub record HasSameOutside (saved present : Session) : Type 0 where
   pub input : present.input ≡ saved.input
   pub open_ : present.open_ ≡ saved.open_
 
--- One session does a SAVE while nobody is connected, and goes on, and behind it the disk's file is what the disk holds of it;
--- another does a RESTORE of that file with the same outside. Each file is so short that its length can be told, and no call on
--- a file fails in the second one from there on.
+-- One session does a SAVE while nobody is connected, and goes on; another does a RESTORE of that file with the same outside. Each
+-- file is so short that its length can be told, and no call on a file fails in the second one from there on.
 pub record SavedAndRestored (saving behind restoring present : Session) (name : List ℕ) (used : ℕ) : Type 0 where
   pub force : Bool
   pub saves : Saves saving behind name
+  pub goes : (step saving).next ≡ Going (behind_save name behind)
   pub nobody : AllByRecursion HasNobody behind.live.lines
-  pub copy : DiskIsItsFile (behind_save name behind).live
   pub lengths : HaveLengths (flushed_with None behind.live).files
   pub restores : Restores restoring present force name used
   pub none : NoneFails present
@@ -151,11 +151,12 @@ pub record EndAlike (front begin : List (Observation State)) (status other : ℕ
   pub two_heard : end.heard ≡ heard_with start.heard (sent_of begin ++ sent)
 
 pub record SavedAndRestoredGoOnAlike : Type 0 where
-  -- the SAVE is done
-  pub saves : (at behind : Session) (name : List ℕ) → Saves at behind name → step at ≡ record { made = asking at; next = Going (behind_save name behind) }
+  -- the SAVE is done, and the session goes on where the disk alone has changed its file in it
+  pub saves : (at behind : Session) (name : List ℕ) → Saves at behind name
+      → step at ≡ record { made = asking at; next = going_on (disk_alone behind.live (left_by_save name behind.live)) (behind_save name behind) }
   -- and so the RESTORE restores what was saved
-  pub restores : (saving behind restoring present : Session) (name : List ℕ) (used : ℕ) → ValidSession saving → ValidSession restoring → SavedAndRestored saving behind restoring present name used
-      → RestoresSaved restoring present (behind_save name behind).live used
+  pub restores : (saving behind restoring present : Session) (name : List ℕ) (used : ℕ) → ValidSession saving → DiskIsItsFile saving.live → ValidSession restoring
+      → SavedAndRestored saving behind restoring present name used → RestoresSaved restoring present (behind_save name behind).live used
   -- the cores are one, and no call fails on either side
   pub core : (saving behind restoring present : Session) (name : List ℕ) (used : ℕ) → SavedAndRestored saving behind restoring present name used
       → SameCore (behind_save name behind) (resumed (behind_save name behind).live used present)
@@ -167,7 +168,7 @@ pub record SavedAndRestoredGoOnAlike : Type 0 where
   -- with any consoles and inputs that refuse nothing
   pub ended : (count many : ℕ) (start saving behind other restoring present : Session) (name : List ℕ) (used : ℕ) (front begin : List (Observation State))
       (status gives made status' gives' made' : ℕ) (before after before' after' : Output) (x y : State)
-      → ValidSession start → ValidSession other → ComesTo count start front saving → ComesTo many other begin restoring → SavedAndRestored saving behind restoring present name used
+      → ValidSession start → DiskIsItsFile start.live → ValidSession other → ComesTo count start front saving → ComesTo many other begin restoring → SavedAndRestored saving behind restoring present name used
       → EndsAs (trace start) status gives made before after x → EndsAs (trace other) status' gives' made' before' after' y
       → status ≢ 102 → status ≢ 106 → status' ≢ 102 → status' ≢ 106
       → EndAlike (front ++ asking saving) (begin ++ asking restoring) status status' before after before' after' x y
