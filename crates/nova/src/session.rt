@@ -1,4 +1,4 @@
-ghost use Rattle.std.specs.Prelude.{◌≡◌, ◌≢◌, List, map, is_some, None, IsTrue};
+ghost use Rattle.std.specs.Prelude.{◌≡◌, ◌≢◌, ◌⊎◌, List, [], map, is_some, None, IsTrue};
 ghost use Rattle.std.specs.List.{AllByRecursion};
 ghost use Rattle.std.specs.Process.{exit_status};
 ghost use Rattle.fault_counts.specs.Faults.{Rose};
@@ -14,7 +14,7 @@ ghost use Rattle.command_words.specs.Words.{options_of, texts_of};
 ghost use Rattle.nova_top.specs.Ends.{IsOutcome, IsCutShort, StatusCause, MachineThere, IsComplete, FilesAtEnd};
 ghost use Rattle.nova_top.specs.Ends.{LinesAtEnd, NoneFailed, KeptUnwritten, OpeningsAtEnd, HasWorkload, InputTells};
 ghost use Rattle.program_start.specs.Unread.{IsUnopened, AreMeasured, HasNoKeys};
-ghost use Rattle.nova_top.specs.Resumption.{ResumesSaved};
+ghost use Rattle.nova_top.specs.Resumption.{ResumesSaved, SaysNoMore};
 ghost use Rattle.nova_top.specs.Used.{ProgramTold};
 ghost use Rattle.nova.specs.Ends.{OfSomeEnding, Promised};
 
@@ -43,14 +43,18 @@ pub fn session<U: Unit, C: Source, S: Sink, F: Files, L: Lines>(
         (C.left input.old) (F.state files.old).files (L.state lines.old) → IsTrue S.tells
         → exit_status result ≢ 103
         → (whole : List LineAnswer) → IsFirst (record_in (L.state lines.new).told) whole
-        → IsOutcome (texts_of words.now) (C.left input.old) (C.left input.new) (S.written output.old)
+        → SaysNoMore L.tells (texts_of words.now) (C.left input.old) (C.left input.new) (S.written output.old)
+        (S.written output.new) (beyond (F.state files.old).files (L.state lines.old) whole)
+        (beyond (F.state files.new).files (L.state lines.new) whole) (notes_said faults) ⊎ IsOutcome (texts_of words.now) (C.left input.old) (C.left input.new) (S.written output.old)
         (S.written output.new) (beyond (F.state files.old).files (L.state lines.old) whole)
         (beyond (F.state files.new).files (L.state lines.new) whole) (exit_status result) machine (notes_said faults))
         (InputTells (texts_of words.now) C.tells → ProgramTold F.tells L.tells (texts_of words.now)
         (C.left input.old) (F.state files.old).files (L.state lines.old) → IsTrue S.tells
         → exit_status result ≡ 103
         → (whole : List LineAnswer) → IsFirst (record_in (L.state lines.new).told) whole
-        → IsCutShort (texts_of words.now) (C.left input.old) (C.left input.new) (S.written output.old)
+        → SaysNoMore L.tells (texts_of words.now) (C.left input.old) (C.left input.new) (S.written output.old)
+        (S.written output.new) (beyond (F.state files.old).files (L.state lines.old) whole)
+        (beyond (F.state files.new).files (L.state lines.new) whole) (notes_said faults) ⊎ IsCutShort (texts_of words.now) (C.left input.old) (C.left input.new) (S.written output.old)
         (S.written output.new) (beyond (F.state files.old).files (L.state lines.old) whole)
         (beyond (F.state files.new).files (L.state lines.new) whole) machine (notes_said faults))
         (InputTells (texts_of words.now) C.tells → ProgramTold F.tells L.tells (texts_of words.now)
@@ -59,14 +63,18 @@ pub fn session<U: Unit, C: Source, S: Sink, F: Files, L: Lines>(
         → (Rose (C.fault_count input.old) (C.fault_count input.new) → ⊥)
         → NoneFailed (F.state files.old) (F.state files.new)
         → (whole : List LineAnswer) → IsFirst (record_in (L.state lines.new).told) whole
-        → IsComplete (texts_of words.now) (C.left input.old) (C.left input.new) (S.written output.old)
+        → SaysNoMore L.tells (texts_of words.now) (C.left input.old) (C.left input.new) (S.written output.old)
+        (S.written output.new) (beyond (F.state files.old).files (L.state lines.old) whole)
+        (beyond (F.state files.new).files (L.state lines.new) whole) [] ⊎ IsComplete (texts_of words.now) (C.left input.old) (C.left input.new) (S.written output.old)
         (S.written output.new) (beyond (F.state files.old).files (L.state lines.old) whole)
         (beyond (F.state files.new).files (L.state lines.new) whole) (exit_status result) machine)
         (InputTells (texts_of words.now) C.tells → ProgramTold F.tells L.tells (texts_of words.now)
         (C.left input.old) (F.state files.old).files (L.state lines.old) → IsTrue S.tells
         → exit_status result ≢ 102 → exit_status result ≢ 103 → exit_status result ≢ 106
         → (whole : List LineAnswer) → IsFirst (record_in (L.state lines.new).told) whole
-        → ResumesSaved (texts_of words.now) (C.left input.old) (C.left input.new) (S.written output.old)
+        → SaysNoMore L.tells (texts_of words.now) (C.left input.old) (C.left input.new) (S.written output.old)
+        (S.written output.new) (beyond (F.state files.old).files (L.state lines.old) whole)
+        (beyond (F.state files.new).files (L.state lines.new) whole) (notes_said faults) ⊎ ResumesSaved (texts_of words.now) (C.left input.old) (C.left input.new) (S.written output.old)
         (S.written output.new) (beyond (F.state files.old).files (L.state lines.old) whole)
         (beyond (F.state files.new).files (L.state lines.new) whole) (exit_status result) machine (notes_said faults))
         (LinesAtEnd machine (L.state lines.old) (L.state lines.new))

@@ -3,6 +3,7 @@ pub mod OpeningLemmas
 pub mod UnreadLemmas
 pub mod PortLemmas
 pub mod ProgramLemmas
+pub mod UnsaidLemmas
 pub mod UsedLemmas
 pub mod ValidProgram
 pub mod ResumptionLemmas

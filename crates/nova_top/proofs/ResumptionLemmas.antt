@@ -12,6 +12,7 @@ use Rattle.file_commands.specs.Notes.{Note}
 use Rattle.expect_actions.specs.KeysFile.{Key}
 use Rattle.nova_machine.specs.Machine.{MachineState}
 use Rattle.nova_machine.specs.LineChanges.{heard_with}
+use Rattle.nova_machine.specs.Valid.{DiskIsItsFile}
 use Rattle.command_session.specs.Live.{Beyond}
 use Rattle.scp_script.specs.Session.{State, Session, asking, Course, trace, ComesTo}
 use Rattle.script_laws.specs.Resumption.{resumed}
@@ -87,6 +88,14 @@ pub begins-valid : (words : List (List ℕ)) (input : List ℕ) (old : Beyond) (
 begins-valid words input old notes front at handed reaches =
     (program-begins-valid words input old.files (ahead_of old.lines.told old.whole) notes (drop reaches.used notes) reaches.options reaches.keys reaches.script handed
     (ap (λ (x : Start × ℕ). x.0) reaches.starts)).valid
+
+-- and the disk holds nothing then
+pub begins-held : (words : List (List ℕ)) (input : List ℕ) (old : Beyond) (notes : List Note) (front : List (Observation State)) (at : Session)
+    → AreHandedBytes words input old.files (ahead_of old.lines.told old.whole) → (reaches : Reaches words input old notes front at)
+    → DiskIsItsFile (opening words reaches.options reaches.keys reaches.script old.files (ahead_of old.lines.told old.whole) input (drop reaches.used notes)).live
+begins-held words input old notes front at handed reaches =
+    (program-begins-valid words input old.files (ahead_of old.lines.told old.whole) notes (drop reaches.used notes) reaches.options reaches.keys reaches.script handed
+    (ap (λ (x : Start × ℕ). x.0) reaches.starts)).disk
 
 pub resumes-saved : (words : List (List ℕ)) (input left before after : List ℕ) (old new : Beyond) (status : ℕ) (machine : Option MachineState) (notes : List Note) → IsOutcome words input left before after old new status machine notes
     → status ≢ 102 → status ≢ 106 → ResumesSaved words input left before after old new status machine notes

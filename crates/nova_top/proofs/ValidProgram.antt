@@ -238,7 +238,6 @@ erased-valid m is = record {
   places = length-map m.slots unnumbered ∙ is.places;
   names = erased-names m.slots is.names;
   disk = is.disk;
-  unmarked = is.unmarked;
 }
 
 first_machine : Option ℕ → MachineState
@@ -262,8 +261,8 @@ record IsFresh (m : MachineState) : Type 0 where
 
 first-fresh : (workload : Option ℕ) → IsFresh (first_machine workload)
 unfolding first_machine new_machine reset_machine reset_devices
-first-fresh None = record { time = refl; taken = refl; disk = λ files keys ahead. refl; lines = (empty-line, tt); own = record { units = reset-kinds standard_units; numbers = refl; lines = refl }; one = refl }
-first-fresh (Some number) = record { time = refl; taken = refl; disk = λ files keys ahead. refl; lines = (empty-line, tt); own = record { units = reset-kinds standard_units; numbers = refl; lines = refl }; one = refl }
+first-fresh None = record { time = refl; taken = refl; disk = λ files keys ahead. refl; lines = (empty-line, tt); own = record { units = reset-kinds standard_units; numbers = refl; aside = refl; lines = refl }; one = refl }
+first-fresh (Some number) = record { time = refl; taken = refl; disk = λ files keys ahead. refl; lines = (empty-line, tt); own = record { units = reset-kinds standard_units; numbers = refl; aside = refl; lines = refl }; one = refl }
 
 -- ---- the session
 

@@ -1,12 +1,13 @@
 -- A program in which a saved session was restored goes on from there as that session, and as the program goes on that has
 -- saved it.
-use Rattle.std.specs.Prelude.{◌≡◌, ◌⊎◌, ℕ, ◌+◌, List, ◌++◌, drop, Option}
+use Rattle.std.specs.Prelude.{◌≡◌, ℕ, ◌+◌, Bool, IsTrue, List, ◌++◌, drop, Option}
 use Rattle.observations.specs.Observations.{Observation, text_of, reads_of, sent_of}
+use Rattle.host_lines.specs.Traffic.{Answer as LineAnswer}
 use Rattle.host_lines.specs.Told.{ahead_of}
 use Rattle.file_commands.specs.Notes.{Note}
 use Rattle.expect_actions.specs.KeysFile.{Key}
 use Rattle.nova_machine.specs.Machine.{MachineState}
-use Rattle.nova_machine.specs.LineChanges.{heard_with}
+use Rattle.nova_machine.specs.LineChanges.{heard_with, HearsOn}
 use Rattle.command_session.specs.Live.{Live, Beyond}
 use Rattle.scp_script.specs.Session.{State, Session, NothingSaid, Over, asking, step, trace, ComesTo}
 use Rattle.script_laws.specs.Resumption.{RestoresSaved, resumed}
@@ -28,18 +29,22 @@ pub record Reaches (words : List (List ℕ)) (input : List ℕ) (old : Beyond) (
   pub comes : ComesTo count (opening words options keys script old.files (ahead_of old.lines.told old.whole) input (drop used notes)) front at
 
 -- The program's session came to a text in which something beside the disk has changed the disk's file, with the first of the
--- notes that were kept: all up to there was printed and read, and nothing is said of what came behind that.
-pub record SaysNoMore (words : List (List ℕ)) (input left before after : List ℕ) (old : Beyond) (notes : List Note) : Type 0 where
+-- notes that were kept, and with what lines record in the end; where these tell nothing, with what they recorded up to there. All
+-- up to there was printed and read, and sent where lines tell theirs, and nothing is said of what came behind that.
+pub record SaysNoMore (tells : Bool) (words : List (List ℕ)) (input left before after : List ℕ) (old new : Beyond) (notes : List Note) : Type 0 where
   pub own : List Note
   pub later : List Note
   pub kept : notes ≡ own ++ later
+  pub recorded : List LineAnswer
+  pub same : IsTrue tells → recorded ≡ old.whole
   pub front : List (Observation State)
   pub at : Session
-  pub reaches : Reaches words input old own front at
+  pub reaches : Reaches words input (record old { whole = recorded }) own front at
   pub state : State
   pub last : (step at).next ≡ Over NothingSaid state
   pub more : List ℕ
   pub printed : after ≡ before ++ (text_of (front ++ (step at).made) ++ more)
+  pub heard : IsTrue tells → HearsOn (heard_with old.lines.sent (sent_of (front ++ (step at).made))) new.lines.sent
   pub made : ℕ
   pub rest : left ≡ drop (reads_of (front ++ (step at).made) + made) input
 
@@ -54,13 +59,11 @@ pub record EndsAsThat (t : Session) (front : List (Observation State)) (left bef
   pub heard : new.lines.sent ≡ heard_with old.lines.sent (sent_of front ++ sent_of (trace t).made)
 
 -- Wherever the program comes to a RESTORE that is done while no action waits and no script is open, and whose file has the
--- text of a session that was saved, all from there on is as the definition of a session has it that begins at that one, up to
--- a text in which something beside the disk changes the disk's file. The rest of the input, the budget, the limit of a run, the
--- prompt, the keys and what is to come on lines are the present ones. What was handed in is of bytes, as all is that a program
--- can be handed.
+-- text of a session that was saved, all from there on is as the definition of a session has it that begins at that one. The
+-- rest of the input, the budget, the limit of a run, the prompt, the keys and what is to come on lines are the present ones.
+-- What was handed in is of bytes, as all is that a program can be handed.
 abbrev pub ResumesSaved : List (List ℕ) → List ℕ → List ℕ → List ℕ → List ℕ → Beyond → Beyond → ℕ → Option MachineState → List Note → Type 0
 ResumesSaved words input left before after old new status machine notes =
     (front : List (Observation State)) (at behind : Session) (s : Live) (used : ℕ) → AreHandedBytes words input old.files (ahead_of old.lines.told old.whole)
     → Reaches words input old notes front at → RestoresSaved at behind s used
-    → SaysNoMore words input left before after old notes
-      ⊎ EndsAsThat (resumed s used behind) (front ++ asking at) left before after old new status machine
+    → EndsAsThat (resumed s used behind) (front ++ asking at) left before after old new status machine

@@ -16,7 +16,7 @@ ghost use Rattle.nova_machine.specs.Comes.{output as heard_output};
 ghost use Rattle.state_transfer.specs.SavedValid.{AreStandard};
 ghost use Rattle.command_session.specs.Live.{beyond};
 ghost use Rattle.scp_script.specs.Loop.{FinishCause, AreKeptFor};
-ghost use Rattle.scp_script.specs.Perform.{beginning, Performed};
+ghost use Rattle.scp_script.specs.Perform.{beginning, Performed, SaysNoMore as SessionSaysNoMore};
 ghost use Rattle.scp_script.specs.Used.{CourseTold};
 ghost use Rattle.command_words.specs.Standard.{IsStandard};
 ghost use Rattle.command_words.specs.Words.{texts_of};
@@ -80,8 +80,9 @@ pub fn simulate<U: Unit, C: Source, S: Sink, F: Files, L: Lines>(
         (C.left input.old) (F.state files.old).files (L.state lines.old) → IsTrue S.tells
         → result.status ≢ 103
         → (whole : List LineAnswer) → IsFirst (record_in (L.state lines.new).told) whole
-        → SaysNoMore (texts_of words.now) (C.left input.old) (C.left input.new) (S.written output.old)
-        (S.written output.new) (beyond (F.state files.old).files (L.state lines.old) whole) (notes_said result.faults.items) ⊎ IsOutcome (texts_of words.now) (C.left input.old) (C.left input.new) (S.written output.old)
+        → SaysNoMore L.tells (texts_of words.now) (C.left input.old) (C.left input.new) (S.written output.old)
+        (S.written output.new) (beyond (F.state files.old).files (L.state lines.old) whole)
+        (beyond (F.state files.new).files (L.state lines.new) whole) (notes_said result.faults.items) ⊎ IsOutcome (texts_of words.now) (C.left input.old) (C.left input.new) (S.written output.old)
         (S.written output.new) (beyond (F.state files.old).files (L.state lines.old) whole)
         (beyond (F.state files.new).files (L.state lines.new) whole) result.status result.machine
         (notes_said result.faults.items) }
@@ -89,8 +90,9 @@ pub fn simulate<U: Unit, C: Source, S: Sink, F: Files, L: Lines>(
         (C.left input.old) (F.state files.old).files (L.state lines.old) → IsTrue S.tells
         → result.status ≡ 103
         → (whole : List LineAnswer) → IsFirst (record_in (L.state lines.new).told) whole
-        → SaysNoMore (texts_of words.now) (C.left input.old) (C.left input.new) (S.written output.old)
-        (S.written output.new) (beyond (F.state files.old).files (L.state lines.old) whole) (notes_said result.faults.items) ⊎ IsCutShort (texts_of words.now) (C.left input.old) (C.left input.new) (S.written output.old)
+        → SaysNoMore L.tells (texts_of words.now) (C.left input.old) (C.left input.new) (S.written output.old)
+        (S.written output.new) (beyond (F.state files.old).files (L.state lines.old) whole)
+        (beyond (F.state files.new).files (L.state lines.new) whole) (notes_said result.faults.items) ⊎ IsCutShort (texts_of words.now) (C.left input.old) (C.left input.new) (S.written output.old)
         (S.written output.new) (beyond (F.state files.old).files (L.state lines.old) whole)
         (beyond (F.state files.new).files (L.state lines.new) whole) result.machine
         (notes_said result.faults.items) }
@@ -100,15 +102,18 @@ pub fn simulate<U: Unit, C: Source, S: Sink, F: Files, L: Lines>(
         → (Rose (C.fault_count input.old) (C.fault_count input.new) → ⊥)
         → NoneFailed (F.state files.old) (F.state files.new)
         → (whole : List LineAnswer) → IsFirst (record_in (L.state lines.new).told) whole
-        → SaysNoMore (texts_of words.now) (C.left input.old) (C.left input.new) (S.written output.old)
-        (S.written output.new) (beyond (F.state files.old).files (L.state lines.old) whole) [] ⊎ IsComplete (texts_of words.now) (C.left input.old) (C.left input.new) (S.written output.old)
+        → SaysNoMore L.tells (texts_of words.now) (C.left input.old) (C.left input.new) (S.written output.old)
+        (S.written output.new) (beyond (F.state files.old).files (L.state lines.old) whole)
+        (beyond (F.state files.new).files (L.state lines.new) whole) [] ⊎ IsComplete (texts_of words.now) (C.left input.old) (C.left input.new) (S.written output.old)
         (S.written output.new) (beyond (F.state files.old).files (L.state lines.old) whole)
         (beyond (F.state files.new).files (L.state lines.new) whole) result.status result.machine }
     ensures resumed { InputTells (texts_of words.now) C.tells → ProgramTold F.tells L.tells (texts_of words.now)
         (C.left input.old) (F.state files.old).files (L.state lines.old) → IsTrue S.tells
         → result.status ≢ 102 → result.status ≢ 103 → result.status ≢ 106
         → (whole : List LineAnswer) → IsFirst (record_in (L.state lines.new).told) whole
-        → ResumesSaved (texts_of words.now) (C.left input.old) (C.left input.new) (S.written output.old)
+        → SaysNoMore L.tells (texts_of words.now) (C.left input.old) (C.left input.new) (S.written output.old)
+        (S.written output.new) (beyond (F.state files.old).files (L.state lines.old) whole)
+        (beyond (F.state files.new).files (L.state lines.new) whole) (notes_said result.faults.items) ⊎ ResumesSaved (texts_of words.now) (C.left input.old) (C.left input.new) (S.written output.old)
         (S.written output.new) (beyond (F.state files.old).files (L.state lines.old) whole)
         (beyond (F.state files.new).files (L.state lines.new) whole) result.status result.machine
         (notes_said result.faults.items) }
@@ -264,12 +269,18 @@ fn run_session<U: Unit, C: Source, S: Sink, F: Files, L: Lines>(
     requires budget { opening.now.budget ≤ 2 ^ 32 }
     requires standard { AreStandard session.machine.units }
     requires open { AllOpen session.machine.slots (F.state files.old).opened }
+    requires bare { session.machine.slots ≡ no_files }
     requires lines { session.machine.lines ≡ unconnected None ∷ [] }
     ensures ended { SessionEnds result.status result.machine
         (λ finish watch now. (opening.now.reads ≡ true → IsTrue C.tells)
         → CourseTold F.tells L.tells (λ whole notes. beginning session
         (beyond (F.state files.old).files (L.state lines.old) whole) opening.now (C.left input.old) notes)
-        → IsTrue S.tells → (whole : List LineAnswer) → IsFirst (record_in (L.state lines.new).told) whole → Performed
+        → IsTrue S.tells → (whole : List LineAnswer) → IsFirst (record_in (L.state lines.new).told) whole → SessionSaysNoMore
+        (λ recorded notes. beginning session (beyond (F.state files.old).files (L.state lines.old) recorded)
+        opening.now (C.left input.old) notes) L.tells whole (C.left input.new)
+        (heard_output (S.written output.old) (L.state lines.old).sent)
+        (heard_output (S.written output.new) (L.state lines.new).sent)
+        (notes_said session.notes) (notes_said result.faults.items) ⊎ Performed
         (λ notes. beginning session (beyond (F.state files.old).files (L.state lines.old) whole) opening.now
         (C.left input.old) notes) finish
         (seen (beside watch session.keys (F.state files.new).files (L.state lines.new)) whole now) (C.left input.new)

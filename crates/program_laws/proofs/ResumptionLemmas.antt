@@ -10,7 +10,7 @@ use Rattle.script_laws.proofs.ResumptionLemmas.{saves-come, traces-saved, saved-
 use Rattle.nova_top.specs.Outside.{left_by, opening}
 use Rattle.nova_top.specs.Resumption.{Reaches}
 use Rattle.program_laws.specs.Resumption.{Ran, IsRun, EndAlike, RestoredProgramsGoOn}
-use Rattle.nova_top.proofs.ResumptionLemmas.{ends-behind, begins-valid, resumes-saved}
+use Rattle.nova_top.proofs.ResumptionLemmas.{ends-behind, begins-valid, begins-held, resumes-saved}
 
 alike : (one other : Ran) (front begin : List (Observation State)) (saving behind restoring present : Session) (name : List ℕ) (used : ℕ) → IsRun one → IsRun other
     → Reaches one.words one.input one.old one.notes front saving → Reaches other.words other.input other.old other.notes begin restoring
@@ -21,10 +21,11 @@ alike one other front begin saving behind restoring present name used first seco
     let other_start = opening other.words comes.options comes.keys comes.script other.old.files (ahead_of other.old.lines.told other.old.whole) other.input (drop comes.used other.notes) in
     let valid = sessions-stay-valid.all reaches.count start saving front (begins-valid one.words one.input one.old one.notes front saving first.handed reaches) reaches.comes in
     let fresh = sessions-stay-valid.all comes.count other_start restoring begin (begins-valid other.words other.input other.old other.notes begin restoring second.handed comes) comes.comes in
+    let held = sessions-stay-valid.disk_all reaches.count start saving front (begins-valid one.words one.input one.old one.notes front saving first.handed reaches) (begins-held one.words one.input one.old one.notes front saving first.handed reaches) reaches.comes in
     let a = ends-behind one.words one.input one.left one.before one.after one.old one.new one.status one.machine one.notes reaches.options reaches.keys reaches.script reaches.used (suc reaches.count) (front ++ asking saving) (behind_save name behind)
-    first.outcome first.no_byte first.no_read reaches.starts (saves-come reaches.count start saving behind name front reaches.comes both.saves) in
+    first.outcome first.no_byte first.no_read reaches.starts (saves-come reaches.count start saving behind name front reaches.comes both.saves both.goes) in
     let b = resumes-saved other.words other.input other.left other.before other.after other.old other.new other.status other.machine other.notes second.outcome second.no_byte second.no_read begin restoring present s used second.handed comes
-    (saved-and-restored-go-on-alike.restores saving behind restoring present name used valid fresh both) in
+    (saved-and-restored-go-on-alike.restores saving behind restoring present name used valid held fresh both) in
     let same = traces-saved saving behind restoring present name used both in
     record {
       statuses = a.status_is ∙ ap (λ (z : Trace State). z.ended.status) same ∙ sym b.status_is;

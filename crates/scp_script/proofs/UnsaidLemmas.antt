@@ -37,6 +37,7 @@ breaks start now next tells before mid after notes notes' notes'' alone s st =
       later = [];
       kept = st.kept ∙ ap (λ l. l ++ st.own) s.kept ∙ append_assoc notes s.own st.own
           ∙ ap (λ l. notes ++ l) (ap (λ l. s.own ++ l) (sym (append-nil st.own)) ∙ sym (append-nil (s.own ++ own)));
+      first = s.first own (st.first [] may);
       count = r.count;
       done = r.done;
       reached = now own;
@@ -63,6 +64,7 @@ said-still start tells left left' before mid after notes notes' notes'' added ke
       own = s.own;
       later = s.later ++ kept;
       kept = keeps ∙ ap (λ l. l ++ kept) s.kept ∙ append_assoc notes (s.own ++ s.later) kept ∙ ap (λ l. notes ++ l) (append_assoc s.own s.later kept);
+      first = s.first;
       count = s.count;
       done = s.done;
       reached = s.reached;

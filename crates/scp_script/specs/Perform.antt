@@ -76,6 +76,7 @@ pub record SaysUpTo (start : List Note → Session) (tells : Bool) (left : List 
   pub own : List Note
   pub later : List Note
   pub kept : notes' ≡ notes ++ (own ++ later)
+  pub first : MayFollow (start []).spent (start []).live own
   pub count : ℕ
   pub done : List (Observation State)
   pub reached : Session

@@ -1,6 +1,9 @@
 use Rattle.std.proofs.Common.{refl, arith, ap, sym, ◌∙◌, subst, List, Option}
 use Rattle.file_commands.specs.declared.note.FaultNote.{FaultNote}
+use Rattle.file_commands.specs.Notes.{Note, notes_said}
 use Rattle.file_commands.specs.OwnFiles.{AreOwn}
+use Rattle.host_lines.specs.Traffic.{Answer as LineAnswer}
+use Rattle.scp_script.specs.Perform.{beginning, SaysNoMore}
 use Rattle.scp_script.specs.Loop.{KeptCause, AreKeptFor}
 use Rattle.scp_script.proofs.KeptLemmas.{kept-within}
 use Rattle.unit_files.specs.Open.{AllOpen, Around}
@@ -10,6 +13,7 @@ use Rattle.command_session.specs.Live.{CommandState, beyond}
 use Rattle.command_session.specs.LinesLeft.{LinesLeft}
 use Rattle.nova_top.proofs.PortLemmas.{apart-at-first, lines-at-end}
 use Rattle.nova_top.proofs.ProgramLemmas.{lines-told, unwritten-finish}
+use Rattle.nova_top.proofs.UnsaidLemmas.{bare-step, either-said}
 use Rattle.nova_top.proofs.program.run_session.Goals as goal
 
 pub returns-clause-ended : goal.returns-clause-ended
@@ -19,13 +23,18 @@ returns-clause-ended g c = (
   c.session.inside.machine,
   c.status.ensures,
   refl,
-  (λ source used sink whole first. lines-told c.args.session c.perform-finish.new.session _ c.args.opening.now
-      (beyond (g.F.Files.state c.args.files.now).files (g.L.Lines.state c.args.lines.now) whole) (beyond (g.F.Files.state c.perform-finish.new.files).files (g.L.Lines.state c.perform-finish.new.lines) whole)
-      (g.C.Source.left c.args.input.now) (g.C.Source.left c.perform-finish.new.input) (output (g.S.Sink.written c.args.output.now) (g.L.Lines.state c.args.lines.now).sent)
-      (output (g.S.Sink.written c.perform-finish.new.out) (g.L.Lines.state c.perform-finish.new.lines).sent) c.perform-finish.result
-      c.session.view_is c.perform-finish.ensures.keys
+  (λ source used sink whole first.
+      let old = beyond (g.F.Files.state c.args.files.now).files (g.L.Lines.state c.args.lines.now) whole in
+      let before = output (g.S.Sink.written c.args.output.now) (g.L.Lines.state c.args.lines.now).sent in
+      let after = output (g.S.Sink.written c.perform-finish.new.out) (g.L.Lines.state c.perform-finish.new.lines).sent in
+      either-said
+      (subst (λ (l : List FaultNote). SaysNoMore (λ (w : List LineAnswer) (n : List Note). beginning c.args.session (beyond (g.F.Files.state c.args.files.now).files (g.L.Lines.state c.args.lines.now) w) c.args.opening.now (g.C.Source.left c.args.input.now) n)
+      g.L.Lines.tells whole (g.C.Source.left c.perform-finish.new.input) before after (notes_said c.args.session.notes) (notes_said l)) (sym (ap (λ (s : CommandState). s.notes) c.session.view_is)))
+      (lines-told c.args.session c.perform-finish.new.session _ c.args.opening.now old (beyond (g.F.Files.state c.perform-finish.new.files).files (g.L.Lines.state c.perform-finish.new.lines) whole)
+      (g.C.Source.left c.args.input.now) (g.C.Source.left c.perform-finish.new.input) before after c.perform-finish.result c.session.view_is c.perform-finish.ensures.keys)
       (c.perform-finish.ensures.told (omega (arith, c.requires.command, c.requires.budget)) source used
-      (λ tells. apart-at-first (g.L.Lines.state c.args.lines.now) c.args.session.machine.lines c.requires.lines) sink whole first)),
+      (λ tells. apart-at-first (g.L.Lines.state c.args.lines.now) c.args.session.machine.lines c.requires.lines) sink
+      (bare-step c.args.session.machine (g.F.Files.state c.args.files.now).files c.requires.bare) whole first)),
   c.perform-finish.ensures.cause,
 )
 

@@ -27,6 +27,7 @@ use Rattle.nova_top.proofs.ProgramLemmas.{Begun, Made, begun-files, begun-line, 
 use Rattle.nova_top.proofs.CountLemmas.{no-openings, refused-openings, session-openings}
 use Rattle.nova_top.proofs.PortLemmas.{lines-unasked}
 use Rattle.nova_top.proofs.ResumptionLemmas.{resumes-saved}
+use Rattle.nova_top.proofs.UnsaidLemmas.{says-no-more, without-notes, either-said, or-said}
 use Rattle.nova_top.proofs.UnreadLemmas.{usage-opened, refused-unopened, refused-keys, refused-measured, session-opened, session-keys, session-measured}
 use Rattle.nova_top.proofs.program.simulate.Given.{Over}
 use Rattle.nova_top.proofs.program.simulate.Goals as goal
@@ -41,18 +42,22 @@ named g words options chosen told = words-named g.F.Files.tells (texts_of words)
 
 pub returns-in_default-clause-outcome : goal.returns-in_default-clause-outcome
 returns-in_default-clause-outcome g c = λ source used sink other whole first.
-    usage-answer (texts_of c.args.words.now) (g.C.Source.left c.args.input.now) (g.S.Sink.written c.args.output.now) (g.S.Sink.written c.usage.new.output)
+    inr (usage-answer (texts_of c.args.words.now) (g.C.Source.left c.args.input.now) (g.S.Sink.written c.args.output.now) (g.S.Sink.written c.usage.new.output)
     (beyond (g.F.Files.state c.args.files.now).files (g.L.Lines.state c.args.lines.now) whole) c.usage.result.status c.usage.result.machine c.usage.result.faults.items
-    (sym c.options_of.ensures.options ∙ c.in_default.is) c.usage.ensures.machine c.usage.ensures.notes (c.usage.ensures.told sink)
+    (sym c.options_of.ensures.options ∙ c.in_default.is) c.usage.ensures.machine c.usage.ensures.notes (c.usage.ensures.told sink))
 
 pub returns-in_default-clause-complete : goal.returns-in_default-clause-complete
 returns-in_default-clause-complete g c = λ source used sink other quiet fed none whole first.
     let was = g.F.Files.state c.args.files.now in
     let old = beyond was.files (g.L.Lines.state c.args.lines.now) whole in
     let is = refused-status 100 c.usage.result.status (g.S.Sink.fault_count c.args.output.now) (g.S.Sink.fault_count c.usage.new.output) c.usage.ensures.cause quiet in
-    complete-answer (texts_of c.args.words.now) (g.C.Source.left c.args.input.now) (g.C.Source.left c.args.input.now) (g.S.Sink.written c.args.output.now) (g.S.Sink.written c.usage.new.output) old old
+    let counted = subst (λ (items : List FaultNote). AreCounted items was was) (sym c.usage.ensures.notes) (counted-none was) in
+    either-said
+    (without-notes g.L.Lines.tells (texts_of c.args.words.now) (g.C.Source.left c.args.input.now) (g.C.Source.left c.args.input.now) (g.S.Sink.written c.args.output.now) (g.S.Sink.written c.usage.new.output) old old
+    c.usage.result.faults.items was was counted none)
+    (complete-answer (texts_of c.args.words.now) (g.C.Source.left c.args.input.now) (g.C.Source.left c.args.input.now) (g.S.Sink.written c.args.output.now) (g.S.Sink.written c.usage.new.output) old old
     c.usage.result.status c.usage.result.machine c.usage.result.faults.items was was ((λ s. omega (arith, is, s)), (λ s. omega (arith, is, s)))
-    (subst (λ (items : List FaultNote). AreCounted items was was) (sym c.usage.ensures.notes) (counted-none was)) none
+    counted none)
     (returns-in_default-clause-outcome g c source used sink other whole first)
 
 -- ---- a file that is refused
@@ -60,10 +65,10 @@ returns-in_default-clause-complete g c = λ source used sink other quiet fed non
 pub returns-in-Err-clause-outcome : goal.returns-in-Err-clause-outcome
 returns-in-Err-clause-outcome g c = λ source used sink other whole first.
     let lines = g.L.Lines.state c.args.lines.now in
-    files-answer (texts_of c.args.words.now) c.in-Some.options (g.C.Source.left c.args.input.now) (g.S.Sink.written c.args.output.now) (g.S.Sink.written c.refuse_files.new.output)
+    inr (files-answer (texts_of c.args.words.now) c.in-Some.options (g.C.Source.left c.args.input.now) (g.S.Sink.written c.args.output.now) (g.S.Sink.written c.refuse_files.new.output)
     (beyond (g.F.Files.state c.args.files.now).files lines whole) (beyond (g.F.Files.state c.begin.new.files).files lines whole) c.in-Err.refusal c.refuse_files.result.status c.refuse_files.result.machine
     c.begin.new.notes.items c.refuse_files.result.faults.items (sym c.options_of.ensures.options ∙ c.in-Some.is) (c.in-Err.ensures.told (named g c.args.words.now c.in-Some.options (sym c.options_of.ensures.options ∙ c.in-Some.is) used.names)) c.refuse_files.ensures.machine
-    (ap (λ (f : List NamedBytes). beyond f lines whole) (c.begin.ensures.files (named g c.args.words.now c.in-Some.options (sym c.options_of.ensures.options ∙ c.in-Some.is) used.names))) other (c.refuse_files.ensures.told sink) (c.refuse_files.ensures.notes ∙ c.notes_of.ensures)
+    (ap (λ (f : List NamedBytes). beyond f lines whole) (c.begin.ensures.files (named g c.args.words.now c.in-Some.options (sym c.options_of.ensures.options ∙ c.in-Some.is) used.names))) other (c.refuse_files.ensures.told sink) (c.refuse_files.ensures.notes ∙ c.notes_of.ensures))
 
 pub returns-in-Err-clause-complete : goal.returns-in-Err-clause-complete
 returns-in-Err-clause-complete g c = λ source used sink other quiet fed none whole first.
@@ -71,20 +76,24 @@ returns-in-Err-clause-complete g c = λ source used sink other quiet fed none wh
     let now = g.F.Files.state c.begin.new.files in
     let lines = g.L.Lines.state c.args.lines.now in
     let status = files-status (texts_of c.args.words.now) c.in-Err.refusal c.refuse_files.result.status (g.S.Sink.fault_count c.args.output.now) (g.S.Sink.fault_count c.refuse_files.new.output) c.refuse_files.ensures.cause quiet in
-    complete-answer (texts_of c.args.words.now) (g.C.Source.left c.args.input.now) (g.C.Source.left c.args.input.now) (g.S.Sink.written c.args.output.now) (g.S.Sink.written c.refuse_files.new.output)
+    let counted = refused-counted [] c.begin.new.notes.items c.refuse_files.result.faults.items was now refl (c.refuse_files.ensures.notes ∙ c.notes_of.ensures) c.begin.ensures.keeps in
+    either-said
+    (without-notes g.L.Lines.tells (texts_of c.args.words.now) (g.C.Source.left c.args.input.now) (g.C.Source.left c.args.input.now) (g.S.Sink.written c.args.output.now) (g.S.Sink.written c.refuse_files.new.output)
+    (beyond was.files lines whole) (beyond now.files lines whole) c.refuse_files.result.faults.items was now counted none)
+    (complete-answer (texts_of c.args.words.now) (g.C.Source.left c.args.input.now) (g.C.Source.left c.args.input.now) (g.S.Sink.written c.args.output.now) (g.S.Sink.written c.refuse_files.new.output)
     (beyond was.files lines whole) (beyond now.files lines whole) c.refuse_files.result.status c.refuse_files.result.machine c.refuse_files.result.faults.items was now status
-    (refused-counted [] c.begin.new.notes.items c.refuse_files.result.faults.items was now refl (c.refuse_files.ensures.notes ∙ c.notes_of.ensures) c.begin.ensures.keeps) none
+    counted none)
     (returns-in-Err-clause-outcome g c source used sink other whole first)
 
 pub returns-in-Err-clause-memory : goal.returns-in-Err-clause-memory
 returns-in-Err-clause-memory g c = λ source used sink memory whole first.
     let lines = g.L.Lines.state c.args.lines.now in
-    files-memory (texts_of c.args.words.now) c.in-Some.options (g.C.Source.left c.args.input.now) (g.S.Sink.written c.args.output.now) (g.S.Sink.written c.refuse_files.new.output)
+    inr (files-memory (texts_of c.args.words.now) c.in-Some.options (g.C.Source.left c.args.input.now) (g.S.Sink.written c.args.output.now) (g.S.Sink.written c.refuse_files.new.output)
     (beyond (g.F.Files.state c.args.files.now).files lines whole) (beyond (g.F.Files.state c.begin.new.files).files lines whole) c.in-Err.refusal c.refuse_files.result.status c.refuse_files.result.machine
     (notes_said c.refuse_files.result.faults.items) (sym c.options_of.ensures.options ∙ c.in-Some.is) c.refuse_files.ensures.machine (ap (λ (f : List NamedBytes). beyond f lines whole) (c.begin.ensures.files (named g c.args.words.now c.in-Some.options (sym c.options_of.ensures.options ∙ c.in-Some.is) used.names))) memory
     (c.refuse_files.ensures.told sink)
     (λ short. subst (λ (l : List FaultNote). AreWordClosings (notes_said l)) (sym (c.refuse_files.ensures.notes ∙ c.notes_of.ensures))
-    (c.begin.ensures.closings (c.in-Err.is ∙ ap (λ (r : Refusal). Err r) short)))
+    (c.begin.ensures.closings (c.in-Err.is ∙ ap (λ (r : Refusal). Err r) short))))
 
 pub returns-in-Err-clause-cause : goal.returns-in-Err-clause-cause
 returns-in-Err-clause-cause g c =
@@ -159,6 +168,9 @@ run_session-requires-clause-lines g c =
     begun-line (NamesTold g.F.Files.tells c.in-Some.options) (texts_of c.args.words.now) c.in-Some.options _ c.open_with-opening.result (g.F.Files.state c.args.files.now) (g.F.Files.state c.begin.new.files)
     (begun g (goal.at.run_session-requires-clause-lines g c).After-run_session-arg-in-Ok-begin-2-1)
 
+pub run_session-requires-clause-bare : goal.run_session-requires-clause-bare
+run_session-requires-clause-bare g c = unattached g (goal.at.run_session-requires-clause-bare g c).After-run_session-arg-in-Ok-begin-2-1
+
 pub run_session-requires-clause-standard : goal.run_session-requires-clause-standard
 run_session-requires-clause-standard g c = standard-units g (goal.at.run_session-requires-clause-standard g c).After-run_session-arg-in-Ok-begin-2-1
 
@@ -184,10 +196,16 @@ returns-in-Ok-begin-clause-outcome g c = λ source used sink other whole first.
     let course = λ (b : Begun (NamesTold g.F.Files.tells c.in-Some.options) (texts_of c.args.words.now) c.in-Some.options c.ready.result c.open_with-opening.result (g.F.Files.state c.args.files.now) (g.F.Files.state c.begin.new.files)).
     course-told g.F.Files.tells g.L.Lines.tells (NamesTold g.F.Files.tells c.in-Some.options) (texts_of c.args.words.now) c.in-Some.options c.ready.result c.open_with-opening.result
     (g.F.Files.state c.args.files.now) (g.F.Files.state c.begin.new.files) (g.L.Lines.state c.args.lines.now) (g.C.Source.left c.args.input.now) chosen b names used in
-    session-answer (NamesTold g.F.Files.tells c.in-Some.options) (texts_of c.args.words.now) c.in-Some.options _ c.open_with-opening.result (g.F.Files.state c.args.files.now) (g.F.Files.state c.begin.new.files) (g.L.Lines.state c.args.lines.now) whole
+    either-said
+    (says-no-more g.L.Lines.tells (NamesTold g.F.Files.tells c.in-Some.options) (texts_of c.args.words.now) c.in-Some.options _ c.open_with-opening.result (g.F.Files.state c.args.files.now) (g.F.Files.state c.begin.new.files) (g.L.Lines.state c.args.lines.now) whole
+    (beyond (g.F.Files.state c.run_session.new.files).files (g.L.Lines.state c.run_session.new.lines) whole)
+    (g.C.Source.left c.args.input.now) (g.C.Source.left c.run_session.new.input) (g.S.Sink.written c.args.output.now) (g.S.Sink.written c.run_session.new.output)
+    (notes_said c.run_session.result.faults.items) chosen (begun g after) names)
+    (session-answer (NamesTold g.F.Files.tells c.in-Some.options) (texts_of c.args.words.now) c.in-Some.options _ c.open_with-opening.result (g.F.Files.state c.args.files.now) (g.F.Files.state c.begin.new.files) (g.L.Lines.state c.args.lines.now) whole
     (beyond (g.F.Files.state c.run_session.new.files).files (g.L.Lines.state c.run_session.new.lines) whole)
     (g.C.Source.left c.args.input.now) (g.C.Source.left c.run_session.new.input) (g.S.Sink.written c.args.output.now) (g.S.Sink.written c.run_session.new.output) finish watch now c.run_session.result.status c.run_session.result.machine
-    (notes_said c.run_session.result.faults.items) (sym c.options_of.ensures.options ∙ c.in-Some.is) (begun g after) names cause.exit status machine other (told (told-input g after source) (course (begun g after)) sink whole first)
+    (notes_said c.run_session.result.faults.items) (sym c.options_of.ensures.options ∙ c.in-Some.is) (begun g after) names cause.exit status machine other)
+    (told (told-input g after source) (course (begun g after)) sink whole first)
 
 pub returns-in-Ok-begin-clause-memory : goal.returns-in-Ok-begin-clause-memory
 returns-in-Ok-begin-clause-memory g c = λ source used sink memory whole first.
@@ -198,10 +216,16 @@ returns-in-Ok-begin-clause-memory g c = λ source used sink memory whole first.
     let course = λ (b : Begun (NamesTold g.F.Files.tells c.in-Some.options) (texts_of c.args.words.now) c.in-Some.options c.ready.result c.open_with-opening.result (g.F.Files.state c.args.files.now) (g.F.Files.state c.begin.new.files)).
     course-told g.F.Files.tells g.L.Lines.tells (NamesTold g.F.Files.tells c.in-Some.options) (texts_of c.args.words.now) c.in-Some.options c.ready.result c.open_with-opening.result
     (g.F.Files.state c.args.files.now) (g.F.Files.state c.begin.new.files) (g.L.Lines.state c.args.lines.now) (g.C.Source.left c.args.input.now) chosen b names used in
-    memory-answer (NamesTold g.F.Files.tells c.in-Some.options) (texts_of c.args.words.now) c.in-Some.options _ c.open_with-opening.result (g.F.Files.state c.args.files.now) (g.F.Files.state c.begin.new.files) (g.L.Lines.state c.args.lines.now) whole
+    either-said
+    (says-no-more g.L.Lines.tells (NamesTold g.F.Files.tells c.in-Some.options) (texts_of c.args.words.now) c.in-Some.options _ c.open_with-opening.result (g.F.Files.state c.args.files.now) (g.F.Files.state c.begin.new.files) (g.L.Lines.state c.args.lines.now) whole
+    (beyond (g.F.Files.state c.run_session.new.files).files (g.L.Lines.state c.run_session.new.lines) whole)
+    (g.C.Source.left c.args.input.now) (g.C.Source.left c.run_session.new.input) (g.S.Sink.written c.args.output.now) (g.S.Sink.written c.run_session.new.output)
+    (notes_said c.run_session.result.faults.items) chosen (begun g after) names)
+    (memory-answer (NamesTold g.F.Files.tells c.in-Some.options) (texts_of c.args.words.now) c.in-Some.options _ c.open_with-opening.result (g.F.Files.state c.args.files.now) (g.F.Files.state c.begin.new.files) (g.L.Lines.state c.args.lines.now) whole
     (beyond (g.F.Files.state c.run_session.new.files).files (g.L.Lines.state c.run_session.new.lines) whole)
     (g.C.Source.left c.args.input.now) (g.C.Source.left c.run_session.new.input) (g.S.Sink.written c.args.output.now) (g.S.Sink.written c.run_session.new.output) finish watch now c.run_session.result.status c.run_session.result.machine
-    (notes_said c.run_session.result.faults.items) (sym c.options_of.ensures.options ∙ c.in-Some.is) (begun g after) names cause.exit status machine memory (told (told-input g after source) (course (begun g after)) sink whole first)
+    (notes_said c.run_session.result.faults.items) (sym c.options_of.ensures.options ∙ c.in-Some.is) (begun g after) names cause.exit status machine memory)
+    (told (told-input g after source) (course (begun g after)) sink whole first)
 
 pub returns-in-Ok-begin-clause-notes : goal.returns-in-Ok-begin-clause-notes
 returns-in-Ok-begin-clause-notes g c =
@@ -257,9 +281,12 @@ returns-in-Ok-begin-clause-complete g c = λ source used sink other quiet fed no
     (g.C.Source.fault_count c.args.input.now) (g.C.Source.fault_count c.run_session.new.input) (sym c.options_of.ensures.options ∙ c.in-Some.is) status cause in
     let ended = session-status (texts_of c.args.words.now) c.run_session.result.status (g.S.Sink.fault_count c.args.output.now) (g.S.Sink.fault_count c.run_session.new.output)
     (g.C.Source.fault_count c.args.input.now) (g.C.Source.fault_count c.run_session.new.input) named quiet fed in
-    complete-answer (texts_of c.args.words.now) (g.C.Source.left c.args.input.now) (g.C.Source.left c.run_session.new.input) (g.S.Sink.written c.args.output.now) (g.S.Sink.written c.run_session.new.output)
+    either-said
+    (without-notes g.L.Lines.tells (texts_of c.args.words.now) (g.C.Source.left c.args.input.now) (g.C.Source.left c.run_session.new.input) (g.S.Sink.written c.args.output.now) (g.S.Sink.written c.run_session.new.output)
+    (beyond was.files (g.L.Lines.state c.args.lines.now) whole) (beyond left.files (g.L.Lines.state c.run_session.new.lines) whole) c.run_session.result.faults.items was left (returns-in-Ok-begin-clause-notes g c) none)
+    (complete-answer (texts_of c.args.words.now) (g.C.Source.left c.args.input.now) (g.C.Source.left c.run_session.new.input) (g.S.Sink.written c.args.output.now) (g.S.Sink.written c.run_session.new.output)
     (beyond was.files (g.L.Lines.state c.args.lines.now) whole) (beyond left.files (g.L.Lines.state c.run_session.new.lines) whole)
-    c.run_session.result.status c.run_session.result.machine c.run_session.result.faults.items was left ended (returns-in-Ok-begin-clause-notes g c) none
+    c.run_session.result.status c.run_session.result.machine c.run_session.result.faults.items was left ended (returns-in-Ok-begin-clause-notes g c) none)
     (returns-in-Ok-begin-clause-outcome g c source used sink other whole first)
 
 -- ---- ports
@@ -375,18 +402,21 @@ pub returns-in_default-clause-resumed : goal.returns-in_default-clause-resumed
 returns-in_default-clause-resumed g c = λ source used sink no_byte other no_read whole first.
     let lines = g.L.Lines.state c.args.lines.now in
     let old = beyond (g.F.Files.state c.args.files.now).files lines whole in
-    resumes-saved (texts_of c.args.words.now) (g.C.Source.left c.args.input.now) (g.C.Source.left c.args.input.now) (g.S.Sink.written c.args.output.now) (g.S.Sink.written c.usage.new.output) old old
-    c.usage.result.status c.usage.result.machine (notes_said c.usage.result.faults.items) (returns-in_default-clause-outcome g c source used sink other whole first) no_byte no_read
+    or-said (λ out. resumes-saved (texts_of c.args.words.now) (g.C.Source.left c.args.input.now) (g.C.Source.left c.args.input.now) (g.S.Sink.written c.args.output.now) (g.S.Sink.written c.usage.new.output) old old
+    c.usage.result.status c.usage.result.machine (notes_said c.usage.result.faults.items) out no_byte no_read)
+    (returns-in_default-clause-outcome g c source used sink other whole first)
 
 pub returns-in-Err-clause-resumed : goal.returns-in-Err-clause-resumed
 returns-in-Err-clause-resumed g c = λ source used sink no_byte other no_read whole first.
     let lines = g.L.Lines.state c.args.lines.now in
-    resumes-saved (texts_of c.args.words.now) (g.C.Source.left c.args.input.now) (g.C.Source.left c.args.input.now) (g.S.Sink.written c.args.output.now) (g.S.Sink.written c.refuse_files.new.output)
+    or-said (λ out. resumes-saved (texts_of c.args.words.now) (g.C.Source.left c.args.input.now) (g.C.Source.left c.args.input.now) (g.S.Sink.written c.args.output.now) (g.S.Sink.written c.refuse_files.new.output)
     (beyond (g.F.Files.state c.args.files.now).files lines whole) (beyond (g.F.Files.state c.begin.new.files).files lines whole) c.refuse_files.result.status c.refuse_files.result.machine
-    (notes_said c.refuse_files.result.faults.items) (returns-in-Err-clause-outcome g c source used sink other whole first) no_byte no_read
+    (notes_said c.refuse_files.result.faults.items) out no_byte no_read)
+    (returns-in-Err-clause-outcome g c source used sink other whole first)
 
 pub returns-in-Ok-begin-clause-resumed : goal.returns-in-Ok-begin-clause-resumed
 returns-in-Ok-begin-clause-resumed g c = λ source used sink no_byte other no_read whole first.
-    resumes-saved (texts_of c.args.words.now) (g.C.Source.left c.args.input.now) (g.C.Source.left c.run_session.new.input) (g.S.Sink.written c.args.output.now) (g.S.Sink.written c.run_session.new.output)
+    or-said (λ out. resumes-saved (texts_of c.args.words.now) (g.C.Source.left c.args.input.now) (g.C.Source.left c.run_session.new.input) (g.S.Sink.written c.args.output.now) (g.S.Sink.written c.run_session.new.output)
     (beyond (g.F.Files.state c.args.files.now).files (g.L.Lines.state c.args.lines.now) whole) (beyond (g.F.Files.state c.run_session.new.files).files (g.L.Lines.state c.run_session.new.lines) whole)
-    c.run_session.result.status c.run_session.result.machine (notes_said c.run_session.result.faults.items) (returns-in-Ok-begin-clause-outcome g c source used sink other whole first) no_byte no_read
+    c.run_session.result.status c.run_session.result.machine (notes_said c.run_session.result.faults.items) out no_byte no_read)
+    (returns-in-Ok-begin-clause-outcome g c source used sink other whole first)
