@@ -1,6 +1,6 @@
 -- What SAVE leaves of a session, and what RESTORE puts in place of the one that was saved.
-use Rattle.std.proofs.Common.{◌≡◌, ℕ, zero, suc, Bool, true, false, List, [], ◌∷◌, length, drop, Option, Some, None, Result, Ok, Err, refl, ap, sym, ◌∙◌, subst, arith, if◌then◌else◌}
-use Rattle.std.specs.Prelude.{nat_lt, unwrap_or}
+use Rattle.std.proofs.Common.{◌≡◌, ℕ, zero, suc, Bool, true, false, List, [], ◌∷◌, ◌++◌, length, drop, Option, Some, None, IsTrue, Result, Ok, Err, refl, ap, sym, ◌∙◌, subst, arith, if◌then◌else◌}
+use Rattle.std.specs.Prelude.{nat_lt, nat_le, ◌&&◌, is_some, IsSome, unwrap_or}
 use Rattle.std.specs.Str.{bytes_eq}
 use Rattle.std.proofs.lemmas.List.{length-map}
 use Rattle.file_traits.specs.declared.files.FileCall.{FileCall}
@@ -10,7 +10,8 @@ use Rattle.file_traits.proofs.Changes.{test-same}
 use Rattle.host_lines.specs.Traffic.{Peer, Ahead, Answer as LineAnswer, Failed, listening}
 use Rattle.telnet_lines.specs.Line.{LineOf}
 use Rattle.unit_trait.specs.declared.kind.UnitName.{UnitName}
-use Rattle.unit_files.specs.Acts.{Failure, flush_said, flushed_as, is_due_back}
+use Rattle.unit_files.specs.declared.modes.AttachMode.TheVariants as modes
+use Rattle.unit_files.specs.Acts.{Failure, failure_at, attach_said, opening_said, opened_said, flush_said, flushed_as, is_due_back}
 use Rattle.unit_files.specs.Attachments.{Attachment, attachment_at, file_units, no_attachments}
 use Rattle.unit_files.specs.Buffer.{Buffer, disk_unit}
 use Rattle.unit_files.specs.Digests.{digest_read, digest_flushed}
@@ -19,15 +20,17 @@ use Rattle.file_commands.specs.Notes.{CommandNote}
 use Rattle.whole_files.specs.Whole.{WholeSaid, WholeIs, NotThere, TooLong, CallFailed, longest_file, closed, bytes_act, open_act, found_act, whole_act}
 use Rattle.whole_files.specs.Writing.{write_act}
 use Rattle.nova_machine.specs.Seen.{attached_in}
+use Rattle.nova_machine.specs.Valid.{CopyIsFile}
 use Rattle.state_text.specs.declared.fault.StateFault.{StateFault}
 use Rattle.saved_files.specs.declared.saving.UnitPlace.{UnitPlace}
 use Rattle.state_transfer.specs.Listening.{wants_port}
-use Rattle.saved_session.specs.Parts.{State}
+use Rattle.saved_session.specs.Parts.{State, FilePart}
+use Rattle.saved_session.specs.Ranges.{kind_at}
 use Rattle.state_transfer.specs.PutBack.{machine_from, lines_from, put_back}
 use Rattle.saved_session.specs.SavedWatch.{watch_from}
 use Rattle.state_text.specs.Reading.{reading}
-use Rattle.saved_files.specs.Restoring.{FileRefusal, first_refused}
-use Rattle.saved_files.specs.Saving.{unit_at, file_places, undigested, failing_first, first_undigested, unless_unflushed, files_flushed, first_unsaved}
+use Rattle.saved_files.specs.Restoring.{FileRefusal, unit_of, is_only_read, mode_of, with_file as with_part, behind_attaching, refusal_of, at_unit, first_of, first_refused}
+use Rattle.saved_files.specs.Saving.{unit_at, place_of, file_places, saved_file, saved_at, saved_files, undigested, failing_first, first_undigested, unless_unflushed, files_flushed, first_unsaved}
 use Rattle.state_transfer.specs.Session.{saved_machine, saved_port, saved}
 use Rattle.saved_session.specs.SavedWatch.{saved_watch}
 use Rattle.state_text.specs.Text.{text}
@@ -38,6 +41,7 @@ use Rattle.command_session.specs.declared.next.Next.TheVariants.{Go}
 use Rattle.command_session.specs.declared.fault.CommandFault.TheVariants.{AlreadyAttached}
 use Rattle.command_session.specs.LineEffects.{listen_answer}
 use Rattle.command_session.specs.Live.{Live, standing}
+use Rattle.command_session.specs.DiskFile.{is_of_both, is_left_by_disk, is_by_disk_at, disk_alone}
 use Rattle.command_session.specs.Reply.{Reply, refused}
 use Rattle.command_session.specs.WholeCalls.{whole_calls}
 use Rattle.state_commands.specs.StateEffects.{unit_claim, flushed_with, save_by, save_reply, heard_live, ported_back, restored_by, restored_as, restored_from, restore_reply}
@@ -107,6 +111,50 @@ ported zero lines used v live one done = refl
 ported (suc port) [] used v live one done = absurd (omega (arith, one))
 ported (suc port) (line ∷ others) used v live one done = heard (listening live.ahead).answer (listening live.ahead).ahead used v live done
 
+-- the first file of a session in which the disk has one is the disk's
+first-file : (files : List NamedBytes) (attached : List (Option Attachment)) (a : Attachment) → attachment_at attached disk_unit ≡ Some a
+    → (rest : List FilePart) × (saved_files files attached file_places ≡ saved_file (place_of 0 0) a (bytes_of files a.name) ∷ rest)
+unfolding file_places kind_at
+first-file files attached a at =
+    let rest = saved_files files attached (drop 1 file_places) in
+    (rest, ap (λ (o : Option Attachment). saved_at files (place_of 0 0) o ++ rest) at)
+
+-- where no file is refused, the first one is not
+first-kept : (fails : Option (UnitName × Failure)) (force : Bool) (f : FilePart) (fs : List FilePart) (attached : List (Option Attachment)) (files : List NamedBytes)
+    → first_refused fails force (f ∷ fs) attached files ≡ None → refusal_of (at_unit (unit_of f) fails) force f attached files ≡ None
+unfolding first_refused
+first-kept fails force f fs attached files none = by (refusal_of (at_unit (unit_of f) fails) force f attached files) none
+  where
+    by : (o : Option FileRefusal) → first_of o (unit_of f) (first_refused fails force fs (with_part attached f) files) ≡ None → o ≡ None
+    by None none = refl
+    by (Some refusal) none = absurd (cc)
+
+-- and a file that is not refused is there
+module _ (fault : Option Failure) (name : List ℕ) (files : List NamedBytes) (force : Bool) (f : FilePart) (bytes : List ℕ) where
+  found-there : (found : Option (List ℕ)) → behind_attaching (opened_said fault disk_unit name (if is_some found then Some files else None)) fault force f bytes ≡ None → IsSome found
+  found-there None none = absurd (cc)
+  found-there (Some all) none = refl
+
+  read-there : (o : Option Failure) → behind_attaching (opening_said o fault modes.ReadOnly disk_unit name files) fault force f bytes ≡ None → IsSome (find_file files name)
+  read-there (Some g) none = absurd (cc)
+  read-there None none = found-there (find_file files name) none
+
+  changed-there : (o : Option Failure) → behind_attaching (opening_said o fault modes.MustExist disk_unit name files) fault force f bytes ≡ None → IsSome (find_file files name)
+  changed-there (Some g) none = absurd (cc)
+  changed-there None none = found-there (find_file files name) none
+
+  mode-there : (b : Bool) → behind_attaching (attach_said fault (mode_of b) disk_unit name no_attachments files) fault force f bytes ≡ None → IsSome (find_file files name)
+  unfolding attach_said
+  mode-there true none = read-there (failure_at Opening fault) none
+  mode-there false none = changed-there (failure_at Opening fault) none
+
+kept-there : (fails : Option Failure) (force : Bool) (a : Attachment) (then_bytes : List ℕ) (files : List NamedBytes)
+    → refusal_of fails force (saved_file (place_of 0 0) a then_bytes) no_attachments files ≡ None → IsSome (find_file files a.name)
+unfolding refusal_of kind_at
+kept-there fails force a then_bytes files none =
+    let f = saved_file (place_of 0 0) a then_bytes in
+    mode-there fails a.name files force f (bytes_of files a.name) (is_only_read f) none
+
 module _ (live s : Live) (then_files : List NamedBytes) (name : List ℕ) (holds : HoldsSaved live.files then_files name s) (same : live.files ≡ s.files) (line : length live.lines ≡ 1) where
   abbrev what : State
   what = saved_among then_files s
@@ -169,6 +217,80 @@ module _ (live s : Live) (then_files : List NamedBytes) (name : List ℕ) (holds
       by-occupied (is_occupied (attached_in live.machine) live.lines) (restored_from force read notes live) read.1 used
       (by-said read.0 read.1 (of-whole calls name live.files) force notes) is.done is.uses
 
+  -- ---- its files
+
+  by-attached : (o : Option (UnitName × FileRefusal)) (used : ℕ) → (restored_by o used what live).answer ≡ Ok Go → o ≡ None
+  by-attached (Some refusal) used done = absurd (cc)
+  by-attached None used done = refl
+
+  -- none was refused
+  abbrev Attached : Bool → List CommandNote → Type 0
+  Attached force notes = first_refused (unit_claim live.machine.time notes) force what.files no_attachments live.files ≡ None
+
+  state-attached : (bytes : List ℕ) → bytes ≡ bytes_of live.files name → (force : Bool) (used : ℕ) (notes : List CommandNote) (r : Result State StateFault) → reading bytes ≡ r
+      → (restored_as force used notes r live).answer ≡ Ok Go → Attached force notes
+  state-attached bytes is force used notes (Err fault) read = λ done. absurd (cc)
+  state-attached bytes is force used notes (Ok v) read =
+      let same : v ≡ what = read-own what v can.fits can.widths (ap reading (sym (is ∙ holds.bytes)) ∙ read) in
+      subst (λ (w : State). (restored_as force used notes (Ok w) live).answer ≡ Ok Go → Attached force notes) (sym same)
+      (by-attached (first_refused (unit_claim live.machine.time notes) force what.files no_attachments live.files) used)
+
+  said-attached : (said : WholeSaid) (used : ℕ) → IsOf (bytes_of live.files name) said → (force : Bool) (notes : List CommandNote) → (restored_from force (said, used) notes live).answer ≡ Ok Go
+      → (left : List CommandNote) × Attached force left
+  unfolding IsOf
+  said-attached (WholeIs bytes) used is force notes = λ done. (drop used notes, state-attached bytes is force used (drop used notes) (reading bytes) refl done)
+  said-attached NotThere used is force notes = λ done. absurd (cc)
+  said-attached TooLong used is force notes = λ done. absurd (cc)
+  said-attached CallFailed used is force notes = λ done. absurd (cc)
+
+  behind-occupied : (b : Bool) (reply : Reply) → (if b then refused AlreadyAttached live else reply).answer ≡ Ok Go → reply.answer ≡ Ok Go
+  behind-occupied true reply done = absurd (cc)
+  behind-occupied false reply done = done
+
+  is-attached : (limit : ℕ) (notes : List CommandNote) (force : Bool) (used : ℕ) → IsRestored limit notes live force name used → (left : List CommandNote) × Attached force left
+  unfolding effect restore_reply
+  is-attached limit notes force used is =
+      let calls = whole_calls subject.State live.machine.time notes in
+      let read = whole_act calls name live.files in
+      said-attached read.0 read.1 (of-whole calls name live.files) force notes
+      (behind-occupied (is_occupied (attached_in live.machine) live.lines) (restored_from force read notes live) is.done)
+
+  -- so the disk's is there, and has what the disk holds
+  disk-there : (force : Bool) (notes : List CommandNote) (a : Attachment) → attachment_at (attached_in s.machine) disk_unit ≡ Some a → Attached force notes → IsSome (find_file live.files a.name)
+  disk-there force notes a at none =
+      let first = first-file then_files (attached_in s.machine) a at in
+      let part = saved_file (place_of 0 0) a (bytes_of then_files a.name) in
+      let fails = unit_claim live.machine.time notes in
+      kept-there (at_unit (unit_of part) fails) force a (bytes_of then_files a.name) live.files
+      (first-kept fails force part first.0 no_attachments live.files (ap (λ (l : List FilePart). first_refused fails force l no_attachments live.files) (sym first.1) ∙ none))
+
+  disk-left : (a : Attachment) (found : Option (List ℕ)) → attachment_at (attached_in s.machine) disk_unit ≡ Some a → find_file live.files a.name ≡ found → IsSome found
+      → is_left_by_disk s.machine.disk (bytes_of live.files a.name) found ≡ true
+  disk-left a None at is there = absurd (cc)
+  disk-left a (Some bytes) at is there =
+      let disk = s.machine.disk in
+      let copy : CopyIsFile (Some a) disk s.files = subst (λ (o : Option Attachment). CopyIsFile o disk s.files) at holds.rest.copy in
+      let held : disk.bytes ≡ bytes = copy holds.rest.written ∙ ap (λ (files : List NamedBytes). bytes_of files a.name) (sym same) ∙ ap (λ (o : Option (List ℕ)). unwrap_or o []) is in
+      ap (λ (b : Bool). if b then nat_le (length (bytes_of live.files a.name)) (length bytes) && nat_le (length bytes) (length disk.bytes) && is_of_both bytes (bytes_of live.files a.name) disk.bytes
+      else bytes_eq bytes disk.bytes) holds.rest.written
+      ∙ ap (λ (l : List ℕ). bytes_eq bytes l) held ∙ test-same bytes
+
+  is-alone : (limit : ℕ) (notes : List CommandNote) (force : Bool) (used : ℕ) → IsRestored limit notes live force name used → IsTrue (disk_alone live (continued s live))
+  unfolding disk_alone
+  is-alone limit notes force used is = by (attachment_at (attached_in s.machine) disk_unit) refl
+    where
+      either : (before : Option Attachment) (a : Attachment) → is_left_by_disk s.machine.disk (bytes_of live.files a.name) (find_file live.files a.name) ≡ true
+          → is_by_disk_at before (Some a) s.machine.disk live.files live.files ≡ true
+      either None a left = left
+      either (Some b) a left = left
+
+      by : (o : Option Attachment) → attachment_at (attached_in s.machine) disk_unit ≡ o → is_by_disk_at (attachment_at (attached_in live.machine) disk_unit) o s.machine.disk live.files live.files ≡ true
+      by None at = refl
+      by (Some a) at =
+          let attached = is-attached limit notes force used is in
+          either (attachment_at (attached_in live.machine) disk_unit) a
+          (disk-left a (find_file live.files a.name) at refl (disk-there force attached.0 a at attached.1))
+
 is-unoccupied : (limit : ℕ) (notes : List CommandNote) (live : Live) (force : Bool) (name : List ℕ) (used : ℕ) → IsRestored limit notes live force name used
     → is_occupied (attached_in live.machine) live.lines ≡ false
 unfolding effect restore_reply
@@ -229,6 +351,7 @@ pub restore-puts-back : RestorePutsBack
 restore-puts-back = record {
   savable = savable;
   restored = λ limit notes live s force name then_files used is holds same line. is-restored live s then_files name holds same line limit notes force used is;
+  alone = λ limit notes live s force name then_files used is holds same line. is-alone live s then_files name holds same line limit notes force used is;
   unoccupied = is-unoccupied;
   standard = λ s is. (saved-is-valid.fits s is, valid-widths (saved s) (saved-is-valid.valid s is));
   saved = is-saved;

@@ -1,5 +1,5 @@
 -- What SAVE leaves of a session, and what RESTORE puts in place of the one that was saved.
-use Rattle.std.specs.Prelude.{◌≡◌, ℕ, zero, suc, ◌<◌, ◌^◌, Bool, false, List, [], length, None, Ok}
+use Rattle.std.specs.Prelude.{◌≡◌, ℕ, zero, suc, ◌<◌, ◌^◌, Bool, false, IsTrue, List, [], length, None, Ok}
 use Rattle.std.specs.List.{AllByRecursion}
 use Rattle.file_traits.specs.Lists.{NamedBytes, bytes_of, with_file}
 use Rattle.host_lines.specs.Traffic.{Peer, Ahead, listening}
@@ -18,6 +18,7 @@ use Rattle.state_transfer.specs.SavedValid.{IsStandard}
 use Rattle.scp_parser.specs.Command.{Save, Restore}
 use Rattle.command_session.specs.declared.next.Next.TheVariants.{Go}
 use Rattle.command_session.specs.Live.{Live, standing}
+use Rattle.command_session.specs.DiskFile.{disk_alone}
 use Rattle.command_session.specs.Reply.{Reply}
 use Rattle.state_commands.specs.StateEffects.{flushed_with}
 use Rattle.command_session.specs.Occupied.{is_occupied}
@@ -104,6 +105,10 @@ pub record RestorePutsBack : Type 0 where
   pub restored : (limit : ℕ) (notes : List CommandNote) (live s : Live) (force : Bool) (name : List ℕ) (then_files : List NamedBytes) (used : ℕ)
       → IsRestored limit notes live force name used → HoldsSaved live.files then_files name s → live.files ≡ s.files → length live.lines ≡ 1
       → effect limit notes live (Restore force name) ≡ done_with used (continued s live)
+  -- and the disk alone has changed the disk's file in it: that has what the disk holds
+  pub alone : (limit : ℕ) (notes : List CommandNote) (live s : Live) (force : Bool) (name : List ℕ) (then_files : List NamedBytes) (used : ℕ)
+      → IsRestored limit notes live force name used → HoldsSaved live.files then_files name s → live.files ≡ s.files → length live.lines ≡ 1
+      → IsTrue (disk_alone live (continued s live))
   -- it is done only where nothing is attached and no line has a port
   pub unoccupied : (limit : ℕ) (notes : List CommandNote) (live : Live) (force : Bool) (name : List ℕ) (used : ℕ) → IsRestored limit notes live force name used
       → is_occupied (attached_in live.machine) live.lines ≡ false

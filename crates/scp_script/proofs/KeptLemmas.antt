@@ -20,8 +20,7 @@ use Rattle.command_session.specs.Live.{Standing}
 use Rattle.nova_machine.specs.Comes.{Output}
 use Rattle.command_session.specs.LineEffects.{is_terminal}
 use Rattle.command_session.specs.FileEffects.{kept_answer}
-use Rattle.command_session.specs.Nature.{nature}
-use Rattle.command_session.specs.Nature.Telling.{Nothing, Ported}
+use Rattle.command_session.specs.Nature.{IsUntold}
 use Rattle.command_session.specs.Answers.{CanAnswer, of_unit}
 use Rattle.command_session.specs.Doing.{CommandOpens, OpensNone, OpensOwn, OpensForUnit, OpensSaved, opens_of, attaches, gives_back, is_missing, most_unnoted, most_opened, Does, Keeps, KeepsBy}
 use Rattle.scp_script.specs.Loop.{most_missed, missed_for, given_for, AreKept, AreKeptFor}
@@ -29,11 +28,11 @@ use Rattle.scp_script.proofs.NextLemmas.{IsPlain}
 
 -- ---- a command that opens no file answers of none that is missing
 
-one-of-unit : (b : Bool) → of_unit b (Err NoFile) → ((if b then Ported else Nothing) ≡ Nothing → ⊥) → ⊥
-one-of-unit true can plain = absurd (cc can)
-one-of-unit false can plain = plain refl
+one-of-unit : (b : Bool) (unit : UnitName) → of_unit b unit (Err NoFile) → ⊥
+one-of-unit true unit can = absurd (cc can)
+one-of-unit false unit can = absurd (cc can)
 
-no-file : (r : Request) → opens_of r ≡ OpensNone → CanAnswer r (Err NoFile) → ((nature r).telling ≡ Nothing → ⊥) → ⊥
+no-file : (r : Request) → opens_of r ≡ OpensNone → CanAnswer r (Err NoFile) → (IsUntold r → ⊥) → ⊥
 no-file (request.Attach option unit name) none can plain = absurd (cc none)
 no-file (request.Do echo strict name arguments) none can plain = absurd (cc none)
 no-file (request.Load name) none can plain = absurd (cc none)
@@ -41,7 +40,7 @@ no-file (request.Dump from to name) none can plain = absurd (cc none)
 no-file (request.Save name) none can plain = absurd (cc none)
 no-file (request.Restore force name) none can plain = absurd (cc none)
 no-file (request.Detach None) none can plain = absurd (cc can)
-no-file (request.Detach (Some unit)) none can plain = one-of-unit (is_terminal unit) can plain
+no-file (request.Detach (Some unit)) none can plain = one-of-unit (is_terminal unit) unit can
 no-file (request.AttachPort kind port) none can plain = absurd (cc can)
 no-file (request.Disconnect kind) none can plain = absurd (cc can)
 no-file (request.Run address) none can plain = absurd (cc can)
@@ -49,13 +48,13 @@ no-file (request.Go address) none can plain = absurd (cc can)
 no-file request.Cont none can plain = absurd (cc can)
 no-file (request.Step count) none can plain = absurd (cc can)
 no-file (request.Exit status) none can plain = absurd (cc can)
-no-file r none can plain = plain refl
+no-file r none can plain = plain (refl, refl)
 
 -- memory ran out
 abbrev pub IsWant : Answer → Type 0
 IsWant answer = answer ≡ Err OutOfMemory
 
-pub none-missing : (r : Request) (fault : CommandFault) → ((IsWant (Err fault) → ⊥) → CanAnswer r (Err fault)) → ((nature r).telling ≡ Nothing → IsPlain (Err fault)) → opens_of r ≡ OpensNone
+pub none-missing : (r : Request) (fault : CommandFault) → ((IsWant (Err fault) → ⊥) → CanAnswer r (Err fault)) → (IsUntold r → IsPlain (Err fault)) → opens_of r ≡ OpensNone
     → is_missing (Err fault) ≡ false
 none-missing r NoFile can plain none = absurd (no-file r none (can (λ e. absurd (cc e))) plain)
 none-missing r fault can plain none = refl

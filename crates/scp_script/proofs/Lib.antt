@@ -9,6 +9,7 @@ pub mod NoteLemmas
 pub mod KeptLemmas
 pub mod WholeLemmas
 pub mod UnsaidLemmas
+pub mod GrowLemmas
 pub mod ActionLemmas
 pub mod UsedLemmas
 pub mod SpendingLemmas

@@ -16,6 +16,7 @@ use Rattle.command_session.specs.Live.{Standing, standing}
 use Rattle.command_session.specs.Reply.{Answer, Reply}
 use Rattle.command_session.specs.Doing.{IsSaid}
 use Rattle.command_session.specs.Asked.{Asked, asked}
+use Rattle.command_session.specs.DiskFile.{disk_alone}
 use Rattle.command_session.specs.Remains.{Remains, flushes_of, reader_of}
 use Rattle.scp_script.specs.declared.progress.Progress.{Progress}
 use Rattle.scp_script.specs.declared.progress.Progress.TheVariants.{GoesOn, IsOver}
@@ -27,7 +28,7 @@ use Rattle.session_texts.specs.Reading.{AreRead}
 use Rattle.session_texts.specs.Actions.{Texts, texts_of, texts_behind}
 use Rattle.unit_trait.specs.declared.kind.UnitName.{UnitName}
 use Rattle.scp_script.specs.Session as ends
-use Rattle.scp_script.specs.Session.{emptied_in, input_end, State, Session, Upcoming, SessionEnd, ExitDone, AllDone, InputEnded, BudgetSpent, end_status, state_of, state_at, flushes_in, closed, end_state, Going, rested, Over, Ends, Comes, prompt_text, asking_input, asking, upcoming, text_reply, following, text_step, step, over_by, course, trace}
+use Rattle.scp_script.specs.Session.{emptied_in, input_end, State, Session, Upcoming, SessionEnd, ExitDone, AllDone, InputEnded, BudgetSpent, end_status, state_of, state_at, flushes_in, closed, end_state, rested, going_on, Over, Ends, Comes, prompt_text, asking_input, asking, upcoming, text_reply, following, text_step, step, over_by, course, trace}
 use Rattle.scp_script.specs.Loop.{exit_of, IsAnswer, AreClosings, AreShort, IsShort, LetsThrough, status_of, finish_of, Finishes, Progresses}
 use Rattle.scp_script.proofs.TextLemmas.{text-reads}
 use Rattle.scp_script.proofs.SessionLemmas.{arrival-paid, trace-is, trace-asks, trace-begins, asking-sent, course-over, step-comes, step-over, upcoming-input, upcoming-done, asking-is, asking-done}
@@ -106,7 +107,7 @@ read-within made open_ input open_now left r = omega (arith, r.count)
 
 -- the session is over before a text, in that state
 over-before : (old new : Session) (end : SessionEnd) (finish : Finish) (before after : Output) → upcoming old ≡ Ends end → end_state end old ≡ state_of new
-    → status_of finish ≡ end_status end → finish_of end ≡ finish → LetsThrough finish (reads_left old.open_ old.input) (reads_of (asking old)) (reads_left old.open_ old.input)
+    → status_of finish ≡ end_status end → finish_of end ≡ Some finish → LetsThrough finish (reads_left old.open_ old.input) (reads_of (asking old)) (reads_left old.open_ old.input)
     → AreRead (reads_of (asking old)) old.open_ old.input new.open_ new.input → after.console ≡ before.console ++ text_of (asking old) → after.heard ≡ before.heard
     → Finishes old finish new before after
 over-before old new end finish before after e state status named lets reads written heard =
@@ -138,16 +139,21 @@ pub asking-reads : (s : Session) → s.texts ≡ texts_of [] [] → s.reads ≡ 
 asking-reads s none on = ap reads_of (asking-is s none on) ∙ add-zero (line_reads s.budget s.open_ s.input)
 
 over-input : (old new : Session) (end : SessionEnd) (finish : Finish) (before after : Output) → old.texts ≡ texts_of [] [] → old.reads ≡ true → upcoming old ≡ Ends end → end_state end old ≡ state_of new
-    → status_of finish ≡ end_status end → finish_of end ≡ finish → ((made : ℕ) → LetsThrough finish (reads_left old.open_ old.input) made (reads_left old.open_ old.input))
+    → status_of finish ≡ end_status end → finish_of end ≡ Some finish → ((made : ℕ) → LetsThrough finish (reads_left old.open_ old.input) made (reads_left old.open_ old.input))
     → AreRead (line_reads old.budget old.open_ old.input) old.open_ old.input new.open_ new.input → after.console ≡ before.console ++ prompt_text old.prompt → after.heard ≡ before.heard
     → Finishes old finish new before after
 over-input old new end finish before after none on e state status named lets reads written heard =
     over-before old new end finish before after e state status named (lets (reads_of (asking old)))
     (subst (λ n. AreRead n old.open_ old.input new.open_ new.input) (sym (asking-reads old none on)) reads) (written ∙ ap (λ t. before.console ++ t) (sym (asking-text old none on))) heard
 
+-- the finish at the end of the input
+abbrev pub input_finish : Option UnitName → Finish
+input_finish None = EndOfInput
+input_finish (Some unit) = FlushFailed
+
 pub input-ended : (old new : Session) (k : Option UnitName) (before after : Output) → old.texts ≡ texts_of [] [] → old.reads ≡ true → arrival old.budget old.open_ old.input ≡ InputEnds → (emptied_in old).kept ≡ k → closed old ≡ state_of new
     → AreRead (line_reads old.budget old.open_ old.input) old.open_ old.input new.open_ new.input → after.console ≡ before.console ++ prompt_text old.prompt → after.heard ≡ before.heard
-    → Finishes old (finish_of (input_end k)) new before after
+    → Finishes old (input_finish k) new before after
 input-ended old new None before after none on e kept closing reads written heard =
     over-input old new InputEnded EndOfInput before after none on (upcoming-input old InputEnds none on e ∙ ap (λ (k : Option UnitName). Ends (input_end k)) kept) closing refl refl (λ _. refl) reads written heard
 input-ended old new (Some u) before after none on e kept closing reads written heard =
@@ -255,7 +261,8 @@ pub text-made : (s behind : Session) (what : Asked) → (text_step (asking s) be
 unfolding text_step
 text-made s behind what = refl
 
-pub text-next : (s behind : Session) (what : Asked) → (text_step (asking s) behind what).next ≡ following (reply_in behind what).answer (left_by behind what)
+pub text-next : (s behind : Session) (what : Asked) → (text_step (asking s) behind what).next
+    ≡ following (reply_in behind what).answer (disk_alone behind.live (reply_in behind what).after.live) (left_by behind what)
 unfolding text_step
 text-next s behind what = refl
 
@@ -281,21 +288,21 @@ made-reads s behind what =
     ∙ ap (λ n. reads_of (asking s) + n) (none-made behind what)
     ∙ add-zero (reads_of (asking s))
 
-following-none : (answer : Answer) (s : Session) → exit_of answer ≡ None → following answer s ≡ Going (rested s)
-following-none (Ok (ExitNext status)) s e = absurd (cc)
-following-none (Ok Go) s e = refl
-following-none (Ok (Ran stop)) s e = refl
-following-none (Ok (Do file)) s e = refl
-following-none (Ok Goto) s e = refl
-following-none (Err fault) s e = refl
+following-none : (answer : Answer) (alone : Bool) (s : Session) → exit_of answer ≡ None → following answer alone s ≡ going_on alone (rested s)
+following-none (Ok (ExitNext status)) alone s e = absurd (cc)
+following-none (Ok Go) alone s e = refl
+following-none (Ok (Ran stop)) alone s e = refl
+following-none (Ok (Do file)) alone s e = refl
+following-none (Ok Goto) alone s e = refl
+following-none (Err fault) alone s e = refl
 
-following-some : (answer : Answer) (s : Session) (status : ℕ) → exit_of answer ≡ Some status → following answer s ≡ Over (ExitDone status) (state_of s)
-following-some (Ok (ExitNext n)) s status e = let same : n ≡ status = cc in ap (λ k. Over (ExitDone k) (state_of s)) same
-following-some (Ok Go) s status e = absurd (cc)
-following-some (Ok (Ran stop)) s status e = absurd (cc)
-following-some (Ok (Do file)) s status e = absurd (cc)
-following-some (Ok Goto) s status e = absurd (cc)
-following-some (Err fault) s status e = absurd (cc)
+following-some : (answer : Answer) (alone : Bool) (s : Session) (status : ℕ) → exit_of answer ≡ Some status → following answer alone s ≡ Over (ExitDone status) (state_of s)
+following-some (Ok (ExitNext n)) alone s status e = let same : n ≡ status = cc in ap (λ k. Over (ExitDone k) (state_of s)) same
+following-some (Ok Go) alone s status e = absurd (cc)
+following-some (Ok (Ran stop)) alone s status e = absurd (cc)
+following-some (Ok (Do file)) alone s status e = absurd (cc)
+following-some (Ok Goto) alone s status e = absurd (cc)
+following-some (Err fault) alone s status e = absurd (cc)
 
 -- a byte of what the text makes is refused
 text-refused-cut : (s behind : Session) (text : List ℕ) (what : Asked) (taken : List ℕ) (at : Standing) (gives : ℕ) → upcoming s ≡ Comes text behind → asked text ≡ what
@@ -396,29 +403,31 @@ left-is behind new what same state texts =
 
 -- what a text comes to, which used so many of the notes
 pub answered : (old behind new : Session) (text : List ℕ) (what : Asked) (used : ℕ) (result : Progress) (tells : Bool) (before mid after : Output) → IsTrue tells
-    → upcoming old ≡ Comes text behind → asked text ≡ what → IsBehind behind new → mid.console ≡ before.console ++ text_of (asking old) → mid.heard ≡ before.heard → drop used behind.notes ≡ new.notes
+    → upcoming old ≡ Comes text behind → asked text ≡ what → behind.live ≡ old.live → IsBehind behind new → mid.console ≡ before.console ++ text_of (asking old) → mid.heard ≡ before.heard → drop used behind.notes ≡ new.notes
     → AreRead (reads_of (asking old)) old.open_ old.input new.open_ new.input
     → IsAnswer (reply_in behind what) (texts_behind behind.texts what) result new.texts (standing used new.live) tells mid after → IsShort what behind.spent result old.live new.live old.notes mid after
     → Progresses old result new before after
-answered old behind new text what used GoesOn tells before mid after told e c b asks quiet notes reads a short =
+answered old behind new text what used GoesOn tells before mid after told e c still b asks quiet notes reads a short =
     let is = step-comes old behind text what e c in
     let reply = reply_in behind what in
     let made = ap (λ s. s.made) is ∙ text-made old behind what in
     let said : IsSaid reply (standing used new.live) tells mid after = a.2 in
     let state = placed behind new used notes ∙ ap (state_at behind.notes) said.after_is in
     record {
-      next = ap (λ s. s.next) is ∙ text-next old behind what ∙ following-none reply.answer (left_by behind what) a.0 ∙ ap (λ (x : Session). Going (rested x)) (left-is behind new what b state a.1);
+      next = ap (λ s. s.next) is ∙ text-next old behind what ∙ following-none reply.answer (disk_alone behind.live reply.after.live) (left_by behind what) a.0
+          ∙ ap (λ (x : Session). going_on (disk_alone behind.live reply.after.live) (rested x)) (left-is behind new what b state a.1)
+          ∙ (λ i. going_on (disk_alone (still i) (ap (λ (x : Standing). x.live) (sym said.after_is) i)) (rested new));
       written = said.written told ∙ ap (λ t. t ++ text_of reply.made) asks ∙ append_assoc before.console (text_of (asking old)) (text_of reply.made)
           ∙ ap (λ t. before.console ++ t) (sym (ap (λ l. text_of l) made ∙ text-text old behind what));
       heard = said.heard ∙ ap (λ h. heard_with h (sent_of reply.made)) quiet ∙ ap (heard_with before.heard) (sym (ap (λ l. sent_of l) made ∙ text-sent old behind what));
       reads = subst (λ n. AreRead n old.open_ old.input new.open_ new.input) (sym (ap (λ l. reads_of l) made ∙ made-reads old behind what)) reads;
     }
-answered old behind new text what used (IsOver (Exit status)) tells before mid after told e c b asks quiet notes reads a short =
+answered old behind new text what used (IsOver (Exit status)) tells before mid after told e c still b asks quiet notes reads a short =
     let is = step-comes old behind text what e c in
     let reply = reply_in behind what in
     let said : IsSaid reply (standing used new.live) tells mid after = a.1 in
     let last = state_at behind.notes reply.after in
-    let next = ap (λ s. s.next) is ∙ text-next old behind what ∙ following-some reply.answer (left_by behind what) status a.0 in
+    let next = ap (λ s. s.next) is ∙ text-next old behind what ∙ following-some reply.answer (disk_alone behind.live reply.after.live) (left_by behind what) status a.0 in
     let over = course-over old (ExitDone status) last next ∙ ap (λ l. over_by l (ExitDone status) last) (ap (λ s. s.made) is ∙ text-made old behind what) in
     let within = read-within _ old.open_ old.input new.open_ new.input reads in
     let whole = text-whole-cut old behind status (reads_left old.open_ old.input) last what over within in
@@ -436,7 +445,7 @@ answered old behind new text what used (IsOver (Exit status)) tells before mid a
       };
       named = λ _ _. ap (λ c. finish_of c.end) (sym over);
     }
-answered old behind new text what used (IsOver Console) tells before mid after told e c b asks quiet notes reads a short =
+answered old behind new text what used (IsOver Console) tells before mid after told e c still b asks quiet notes reads a short =
     let off = a.told told in
     let within = read-within _ old.open_ old.input new.open_ new.input reads in
     let refused = text-refused-cut old behind text what off.taken (standing used new.live) (reads_left old.open_ old.input) e c off.breaks within in
@@ -454,7 +463,7 @@ answered old behind new text what used (IsOver Console) tells before mid after t
       };
       named = λ console _. absurd (console refl);
     }
-answered old behind new text what used (IsOver OutOfMemory) tells before mid after told e c b asks quiet notes reads a short = record {
+answered old behind new text what used (IsOver OutOfMemory) tells before mid after told e c still b asks quiet notes reads a short = record {
   short = record {
     live_is = subst (λ (b : Bool). Remains b old.live new.live) (sym (ap flushes_in e ∙ ap flushes_of c)) short.0;
     notes = subst (λ (u : Upcoming). AreShort u old.notes) (sym e) (subst (λ (a : Asked). AreClosings (reader_of a) behind.spent old.notes) (sym c) short.1);
@@ -465,10 +474,10 @@ answered old behind new text what used (IsOver OutOfMemory) tells before mid aft
   few = omega arith;
   reads = reads;
 }
-answered old behind new text what used (IsOver EndOfInput) tells before mid after told e c b asks quiet notes reads a short = absurd a
-answered old behind new text what used (IsOver FlushFailed) tells before mid after told e c b asks quiet notes reads a short = absurd a
-answered old behind new text what used (IsOver Commands) tells before mid after told e c b asks quiet notes reads a short = absurd a
-answered old behind new text what used (IsOver Input) tells before mid after told e c b asks quiet notes reads a short = absurd a
+answered old behind new text what used (IsOver EndOfInput) tells before mid after told e c still b asks quiet notes reads a short = absurd a
+answered old behind new text what used (IsOver FlushFailed) tells before mid after told e c still b asks quiet notes reads a short = absurd a
+answered old behind new text what used (IsOver Commands) tells before mid after told e c still b asks quiet notes reads a short = absurd a
+answered old behind new text what used (IsOver Input) tells before mid after told e c still b asks quiet notes reads a short = absurd a
 
 -- the text that a script's line is, where it is short enough
 pub some-fits : (text line : List ℕ) → Some text ≡ (if nat_le (length line) 512 then Some line else None) → text ≡ line

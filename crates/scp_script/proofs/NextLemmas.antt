@@ -25,8 +25,7 @@ use Rattle.command_session.specs.declared.next.Next.TheVariants.{Go, Ran, Do, Go
 use Rattle.command_session.specs.declared.fault.CommandFault.TheVariants.{NoSuchName, NoFile}
 use Rattle.command_session.specs.Live.{Live}
 use Rattle.command_session.specs.Reply.{Answer, Reply, bare_answer}
-use Rattle.command_session.specs.Nature.{nature}
-use Rattle.command_session.specs.Nature.Telling.{Nothing, Ported}
+use Rattle.command_session.specs.Nature.{IsUntold}
 use Rattle.command_session.specs.Answers.{CanAnswer, of_unit}
 use Rattle.command_session.specs.RunEffects.{reset_reply}
 use Rattle.plain_commands.specs.ListEffects.{lacks_device, examine_after, examine_reply, handed, deposit_after, deposit_reply}
@@ -162,42 +161,42 @@ assert-none : (live : Live) (test : Test) → IsPlain (assert_reply live test).a
 unfolding assert_reply
 assert-none live test = tested-none (lacks_device live.machine test.device) (tested live.machine test)
 
+-- a unit loses its file, or the second teletype its port
 pub detach-plain : (notes : List CommandNote) (live : Live) (unit : UnitName) → IsPlain (detach_one_or_all notes live (Some unit)).answer
 detach-plain notes live unit = none-if (is_terminal unit) _ _ (detach_port-none live) (detach-none notes live unit)
 
 -- a command that works on no file and no line
-pub untold-plain : (limit : ℕ) (notes : List CommandNote) (live : Live) (r : Request) → (nature r).telling ≡ Nothing → IsPlain (effect limit notes live r).answer
+pub untold-plain : (limit : ℕ) (notes : List CommandNote) (live : Live) (r : Request) → IsUntold r → IsPlain (effect limit notes live r).answer
 unfolding effect
-untold-plain limit notes live request.Nothing told = tt
-untold-plain limit notes live (request.Examine l) told = examine-none live l
-untold-plain limit notes live (request.Deposit l value) told = deposit-none live l value
-untold-plain limit notes live (request.Run address) told = absurd (cc told)
-untold-plain limit notes live (request.Go address) told = absurd (cc told)
-untold-plain limit notes live request.Cont told = absurd (cc told)
-untold-plain limit notes live (request.Step count) told = absurd (cc told)
-untold-plain limit notes live request.Reset told = reset-none live
-untold-plain limit notes live (request.Break at count actions) told = break-none live at count actions
-untold-plain limit notes live (request.NoBreak at) told = no_break-none live at
-untold-plain limit notes live (request.Expect count text actions) told = expect-none live count text actions
-untold-plain limit notes live request.NoExpect told = no_expect-none live
-untold-plain limit notes live (request.Send after delay text) told = send-none live after delay text
-untold-plain limit notes live request.NoSend told = no_send-none live
-untold-plain limit notes live (request.Attach option unit name) told = absurd (cc told)
-untold-plain limit notes live (request.AttachPort kind port) told = absurd (cc told)
-untold-plain limit notes live (request.Detach None) told = absurd (cc told)
-untold-plain limit notes live (request.Detach (Some unit)) told = detach-plain notes live unit
-untold-plain limit notes live (request.SetSize k) told = set_size-none live k
-untold-plain limit notes live (request.Disconnect kind) told = absurd (cc told)
-untold-plain limit notes live (request.Show subject) told = show-none live subject
-untold-plain limit notes live (request.Assert test) told = assert-none live test
-untold-plain limit notes live (request.Echo text) told = echo-none live text
-untold-plain limit notes live (request.Exit status) told = absurd (cc told)
-untold-plain limit notes live (request.Do echo strict name arguments) told = absurd (cc told)
-untold-plain limit notes live (request.Load name) told = absurd (cc told)
-untold-plain limit notes live (request.Dump from to name) told = absurd (cc told)
-untold-plain limit notes live (request.Save name) told = absurd (cc told)
-untold-plain limit notes live (request.Restore force name) told = absurd (cc told)
-untold-plain limit notes live (request.Goto label) told = tt
+untold-plain limit notes live request.Nothing untold = tt
+untold-plain limit notes live (request.Examine l) untold = examine-none live l
+untold-plain limit notes live (request.Deposit l value) untold = deposit-none live l value
+untold-plain limit notes live (request.Run address) untold = absurd (cc untold.0)
+untold-plain limit notes live (request.Go address) untold = absurd (cc untold.0)
+untold-plain limit notes live request.Cont untold = absurd (cc untold.0)
+untold-plain limit notes live (request.Step count) untold = absurd (cc untold.0)
+untold-plain limit notes live request.Reset untold = reset-none live
+untold-plain limit notes live (request.Break at count actions) untold = break-none live at count actions
+untold-plain limit notes live (request.NoBreak at) untold = no_break-none live at
+untold-plain limit notes live (request.Expect count text actions) untold = expect-none live count text actions
+untold-plain limit notes live request.NoExpect untold = no_expect-none live
+untold-plain limit notes live (request.Send after delay text) untold = send-none live after delay text
+untold-plain limit notes live request.NoSend untold = no_send-none live
+untold-plain limit notes live (request.Attach option unit name) untold = absurd (cc untold.0)
+untold-plain limit notes live (request.AttachPort kind port) untold = absurd (cc untold.0)
+untold-plain limit notes live (request.Detach unit) untold = absurd (cc untold.1)
+untold-plain limit notes live (request.SetSize k) untold = set_size-none live k
+untold-plain limit notes live (request.Disconnect kind) untold = absurd (cc untold.0)
+untold-plain limit notes live (request.Show subject) untold = show-none live subject
+untold-plain limit notes live (request.Assert test) untold = assert-none live test
+untold-plain limit notes live (request.Echo text) untold = echo-none live text
+untold-plain limit notes live (request.Exit status) untold = absurd (cc untold.0)
+untold-plain limit notes live (request.Do echo strict name arguments) untold = absurd (cc untold.0)
+untold-plain limit notes live (request.Load name) untold = absurd (cc untold.0)
+untold-plain limit notes live (request.Dump from to name) untold = absurd (cc untold.0)
+untold-plain limit notes live (request.Save name) untold = absurd (cc untold.0)
+untold-plain limit notes live (request.Restore force name) untold = absurd (cc untold.0)
+untold-plain limit notes live (request.Goto label) untold = tt
 
 -- ---- what comes next
 
@@ -213,23 +212,23 @@ plain-next Goto answer is plain = tt
 
 -- what such a command has next, where it does that
 pub untold-next : (limit : ℕ) (notes : List CommandNote) (live : Live) (r : Request) (next : Next) → bare_answer (Ok next) ≡ (effect limit notes live r).answer
-    → (nature r).telling ≡ Nothing → IsPlain (Ok next)
-untold-next limit notes live r next is told = plain-next next (effect limit notes live r).answer is (untold-plain limit notes live r told)
+    → IsUntold r → IsPlain (Ok next)
+untold-next limit notes live r next is untold = plain-next next (effect limit notes live r).answer is (untold-plain limit notes live r untold)
 
 -- one of a unit
-unit-script : (b : Bool) (file : DoFile) → of_unit b (Ok (Do file)) → ((if b then Ported else Nothing) ≡ Nothing → ⊥) → ⊥
-unit-script true file can plain = can
-unit-script false file can plain = plain refl
+unit-script : (b : Bool) (unit : UnitName) (file : DoFile) → of_unit b unit (Ok (Do file)) → ⊥
+unit-script true unit file can = can
+unit-script false unit file can = can
 
-unit-exit : (b : Bool) (status : ℕ) → of_unit b (Ok (Exit status)) → ((if b then Ported else Nothing) ≡ Nothing → ⊥) → ⊥
-unit-exit true status can plain = can
-unit-exit false status can plain = plain refl
+unit-exit : (b : Bool) (unit : UnitName) (status : ℕ) → of_unit b unit (Ok (Exit status)) → ⊥
+unit-exit true unit status can = can
+unit-exit false unit status can = can
 
 -- a script comes of DO alone
-script-room : (scripts : List Script) (r : Request) (file : DoFile) → FitsIn scripts r → CanAnswer r (Ok (Do file)) → ((nature r).telling ≡ Nothing → ⊥) → length scripts < most_scripts
+script-room : (scripts : List Script) (r : Request) (file : DoFile) → FitsIn scripts r → CanAnswer r (Ok (Do file)) → (IsUntold r → ⊥) → length scripts < most_scripts
 script-room scripts (request.Do echo strict name arguments) file fits can plain = fits
 script-room scripts (request.Detach None) file fits can plain = absurd can
-script-room scripts (request.Detach (Some unit)) file fits can plain = absurd (unit-script (is_terminal unit) file can plain)
+script-room scripts (request.Detach (Some unit)) file fits can plain = absurd (unit-script (is_terminal unit) unit file can)
 script-room scripts (request.Attach option unit name) file fits can plain = absurd can
 script-room scripts (request.AttachPort kind port) file fits can plain = absurd can
 script-room scripts (request.Disconnect kind) file fits can plain = absurd can
@@ -242,9 +241,9 @@ script-room scripts (request.Load name) file fits can plain = absurd can
 script-room scripts (request.Dump from to name) file fits can plain = absurd can
 script-room scripts (request.Save name) file fits can plain = absurd can
 script-room scripts (request.Restore force name) file fits can plain = absurd can
-script-room scripts r file fits can plain = absurd (plain refl)
+script-room scripts r file fits can plain = absurd (plain (refl, refl))
 
-pub room-next : (scripts : List Script) (r : Request) (next : Next) → FitsIn scripts r → CanAnswer r (Ok next) → ((nature r).telling ≡ Nothing → IsPlain (Ok next)) → HasRoom scripts next
+pub room-next : (scripts : List Script) (r : Request) (next : Next) → FitsIn scripts r → CanAnswer r (Ok next) → (IsUntold r → IsPlain (Ok next)) → HasRoom scripts next
 room-next scripts r (Do file) fits can plain = script-room scripts r file fits can plain
 room-next scripts r Go fits can plain = tt
 room-next scripts r (Ran stop) fits can plain = tt
@@ -252,10 +251,10 @@ room-next scripts r Goto fits can plain = tt
 room-next scripts r (Exit status) fits can plain = tt
 
 -- and an exit of EXIT
-exit-of : (r : Request) (status : ℕ) → CanAnswer r (Ok (Exit status)) → ((nature r).telling ≡ Nothing → ⊥) → AsksExit (Ok r) status
+exit-of : (r : Request) (status : ℕ) → CanAnswer r (Ok (Exit status)) → (IsUntold r → ⊥) → AsksExit (Ok r) status
 exit-of (request.Exit option) status can plain = (option, refl, can)
 exit-of (request.Detach None) status can plain = absurd can
-exit-of (request.Detach (Some unit)) status can plain = absurd (unit-exit (is_terminal unit) status can plain)
+exit-of (request.Detach (Some unit)) status can plain = absurd (unit-exit (is_terminal unit) unit status can)
 exit-of (request.Do echo strict name arguments) status can plain = absurd can
 exit-of (request.Attach option unit name) status can plain = absurd can
 exit-of (request.AttachPort kind port) status can plain = absurd can
@@ -268,9 +267,9 @@ exit-of (request.Load name) status can plain = absurd can
 exit-of (request.Dump from to name) status can plain = absurd can
 exit-of (request.Save name) status can plain = absurd can
 exit-of (request.Restore force name) status can plain = absurd can
-exit-of r status can plain = absurd (plain refl)
+exit-of r status can plain = absurd (plain (refl, refl))
 
-pub exit-next : (r : Request) (next : Next) → CanAnswer r (Ok next) → ((nature r).telling ≡ Nothing → IsPlain (Ok next)) → NextOf (Ok r) next
+pub exit-next : (r : Request) (next : Next) → CanAnswer r (Ok next) → (IsUntold r → IsPlain (Ok next)) → NextOf (Ok r) next
 exit-next r (Exit status) can plain = exit-of r status can plain
 exit-next r (Do file) can plain = tt
 exit-next r Go can plain = tt

@@ -4,6 +4,7 @@ use Rattle.std.proofs.Math.Seq.{take-append_seam}
 use Rattle.expect_actions.specs.Actions.{first_written}
 use Rattle.fault_counts.specs.Faults.{raised}
 use Rattle.observations.specs.Observations.{Observation, Trace, text_of, reads_of, sent_of}
+use Rattle.file_traits.specs.Lists.{NamedBytes}
 use Rattle.file_traits.specs.State.{FileState}
 use Rattle.unit_files.specs.Attachments.{Held}
 use Rattle.file_commands.specs.declared.note.Subject.{Subject}
@@ -32,7 +33,7 @@ use Rattle.session_texts.specs.Actions.{texts_of, texts_behind}
 use Rattle.scp_script.specs.Session.{State, Session, spent_more, Upcoming, Ends, Comes, Step, flushes_in, flushes_next, Course, prompt_text, asking, behind_line, behind_script_line, behind_action, upcoming, emptied_in, input_end, closed, text_reply, course, trace}
 use Rattle.scp_script.specs.Loop.{session_of, IsAnswer, AreClosings, AreShort, IsShort, Answers, AnswerCounts, HasExitStatus, status_of, finish_of, EndsAs, Finishes, MayFollow, MayCome, StopsShort, RunsOut, Progresses, ProgressCause, Stepped, KeptInLine}
 use Rattle.scp_script.proofs.SessionLemmas.{arrival-paid, upcoming-input, upcoming-script, asking-script, upcoming-action, asking-action, trace-is, closing, asking-still, upcoming-still, step-still, course-still}
-use Rattle.scp_script.proofs.LineLemmas.{none-read, comes-reads, asking-text, asking-reads, IsBehind, answered, input-ended}
+use Rattle.scp_script.proofs.LineLemmas.{none-read, comes-reads, asking-text, asking-reads, IsBehind, answered, input_finish, input-ended}
 
 -- a session to which these calls are still to come
 abbrev pub with_notes : Session → List Note → Session
@@ -93,12 +94,12 @@ short-all what number (IsOver Input) old new now own more before after come shor
 
 -- a text was done
 pub text-stepped : (old behind new : Session) (text : List ℕ) (what : Asked) (shown : List ℕ) (made : ℕ) (result : Progress) (tells : Bool) (before mid after : Output) (notes notes' : List Note) → IsTrue tells
-    → ((l : List Note) → upcoming (with_notes old l) ≡ Comes text (with_notes behind l)) → asked text ≡ what → IsBehind behind new → old.spent < new.spent
+    → ((l : List Note) → upcoming (with_notes old l) ≡ Comes text (with_notes behind l)) → asked text ≡ what → behind.live ≡ old.live → IsBehind behind new → old.spent < new.spent
     → ((l : List Note) → text_of (asking (with_notes old l)) ≡ shown) → mid.console ≡ before.console ++ shown → mid.heard ≡ before.heard → ((l : List Note) → reads_of (asking (with_notes old l)) ≡ made)
     → AreRead made old.open_ old.input new.open_ new.input
     → Answers behind.limit behind.live behind.texts what new.spent result new.live new.texts tells mid after notes notes' → ((own : List Note) → notes' ≡ notes ++ own → IsShort what new.spent result old.live new.live own mid after)
     → Stepped (with_notes old) result (with_notes new) before after notes notes'
-text-stepped old behind new text what shown made result tells before mid after notes notes' told e c b less asks prompted quiet counts reads a short = record {
+text-stepped old behind new text what shown made result tells before mid after notes notes' told e c still b less asks prompted quiet counts reads a short = record {
   own = numbered new.spent a.own;
   kept = a.kept;
   first = λ more come. later-follow old.spent new.spent old.live new.live a.own more less (may-follow result new.spent new.live more come);
@@ -107,7 +108,7 @@ text-stepped old behind new text what shown made result tells before mid after n
       let all = numbered new.spent a.own ++ more in
       let given : handed behind.spent all ≡ a.own ++ m.behind =
       ap (λ n. handed n all) (sym (ap (λ (x : Session). x.spent) b)) ∙ handed-more new.spent new.live a.own more m in
-      answered (with_notes old all) (with_notes behind all) (with_notes new more) text what (length a.own) result tells before mid after told (e all) c
+      answered (with_notes old all) (with_notes behind all) (with_notes new more) text what (length a.own) result tells before mid after told (e all) c still
       (ap (λ (x : Session). record x { notes = more }) b) (prompted ∙ ap (λ t. before.console ++ t) (sym (asks all))) quiet (dropped new.spent a.own more)
       (subst (λ n. AreRead n old.open_ old.input new.open_ new.input) (sym (counts all)) reads)
       (subst (λ l. IsAnswer (text_reply behind.limit behind.texts l behind.live what) (texts_behind behind.texts what) result new.texts (standing (length a.own) new.live) tells mid after)
@@ -154,7 +155,7 @@ pub line-stepped : (old new : Session) (line : List ℕ) (what : Asked) (result 
 unfolding behind_line
 line-stepped old new line what result tells before mid after notes notes' told none on e c b less prompted quiet a short =
     text-stepped old (behind_line old) new line what (prompt_text old.prompt) (line_reads old.budget old.open_ old.input) result tells before mid after notes notes' told
-    (λ l. upcoming-input (with_notes old l) (LineComes line) none on e) c (behind-input old new line e b) less (λ l. asking-text (with_notes old l) none on) prompted quiet
+    (λ l. upcoming-input (with_notes old l) (LineComes line) none on e) c refl (behind-input old new line e b) less (λ l. asking-text (with_notes old l) none on) prompted quiet
     (λ l. asking-reads (with_notes old l) none on) b.reads a short
 
 -- the same behind the next line of a script
@@ -184,7 +185,7 @@ pub script-stepped : (old new : Session) (script : Script) (outer : List Script)
 unfolding behind_script_line
 script-stepped old new script outer what result tells before mid after notes notes' told is more fits c b less prompted quiet a short =
     text-stepped old (behind_script_line old script outer) new (text_of_line script) what (echo_text script) 0 result tells before mid after notes notes' told
-    (λ l. upcoming-script (with_notes old l) script outer is more fits) c (behind-script old new script outer b) less
+    (λ l. upcoming-script (with_notes old l) script outer is more fits) c refl (behind-script old new script outer b) less
     (λ l. ap text_of (asking-script (with_notes old l) script outer is more fits) ∙ append-nil (echo_text script)) prompted quiet
     (λ l. ap reads_of (asking-script (with_notes old l) script outer is more fits)) (same-read old.open_ new.open_ old.input new.input b.open_ b.input) a short
 
@@ -211,7 +212,7 @@ pub action-stepped : (old new : Session) (action : List ℕ) (others : List (Lis
 unfolding behind_action
 action-stepped old new action others what result tells before after notes notes' told is fits c b less a short =
     text-stepped old (behind_action old others) new action what [] 0 result tells before before after notes notes' told
-    (λ l. upcoming-action (with_notes old l) action others is fits) c (behind-action old new others b) less
+    (λ l. upcoming-action (with_notes old l) action others is fits) c refl (behind-action old new others b) less
     (λ l. ap text_of (asking-action (with_notes old l) action others is)) (sym (append-nil before.console)) refl
     (λ l. ap reads_of (asking-action (with_notes old l) action others is)) (same-read old.open_ new.open_ old.input new.input b.open_ b.input) a short
 
@@ -261,23 +262,24 @@ closed-own s own used =
 kept-own : (s : Session) (own : List CommandNote) → (emptied_in (with_notes s (numbered s.spent own ++ []))).kept ≡ (emptied_all own s.live).kept
 kept-own s own = ap (λ (l : List CommandNote). (emptied_all l s.live).kept) (handed-own s.spent own [] tt)
 
-ended-so : (k : Option UnitName) (old new : Session) (before after : Output) → Finishes old (finish_of (input_end k)) new before after → Progresses old (IsOver (finish_of (input_end k))) new before after
+ended-so : (k : Option UnitName) (old new : Session) (before after : Output) → Finishes old (input_finish k) new before after → Progresses old (IsOver (input_finish k)) new before after
 ended-so None old new before after f = f
 ended-so (Some u) old new before after f = f
 
 -- the input has ended, and the units have lost their files, up to one that has kept it
 pub input-closed : (old new : Session) (k : Option UnitName) (before after : Output) (notes notes' : List Note) → old.texts ≡ texts_of [] [] → old.reads ≡ true → arrival old.budget old.open_ old.input ≡ InputEnds
-    → Closes old.spent old.live new.live k notes notes' → AreRead (line_reads old.budget old.open_ old.input) old.open_ old.input new.open_ new.input → after.console ≡ before.console ++ prompt_text old.prompt → after.heard ≡ before.heard
-    → Stepped (with_notes old) (IsOver (finish_of (input_end k))) (with_notes new) before after notes notes'
-input-closed old new k before after notes notes' none_open on e c reads written heard =
+    → (step : Type 0) → step → Closes step old.spent old.live new.live k notes notes' → AreRead (line_reads old.budget old.open_ old.input) old.open_ old.input new.open_ new.input → after.console ≡ before.console ++ prompt_text old.prompt → after.heard ≡ before.heard
+    → Stepped (with_notes old) (IsOver (input_finish k)) (with_notes new) before after notes notes'
+input-closed old new k before after notes notes' none_open on e step now c reads written heard =
     let own = numbered old.spent c.own in
-    let closing = closed-own old c.own c.used ∙ ap (λ (x : Live). record { live = x; notes = [] }) (sym c.after) in
+    let left : new.live ≡ emptied_live (emptied_all c.own old.live) old.live = c.after ∙ ap (λ (files : List NamedBytes). record (emptied_live (emptied_all c.own old.live) old.live) { files = files }) (c.content now) in
+    let closing = closed-own old c.own c.used ∙ ap (λ (x : Live). record { live = x; notes = [] }) (sym left) in
     let over = input-ended (with_notes old (own ++ [])) (with_notes new []) k before after none_open on e (kept-own old c.own ∙ c.keeps) closing reads written heard in
     record {
       own = own;
       kept = c.kept;
       first = λ more none. record { behind = c.own; later = []; are = ap (λ l. own ++ l) none; closings = c.behind; follows = tt };
-      goes = λ more none. subst (λ l. Progresses (with_notes old (own ++ l)) (IsOver (finish_of (input_end k))) (with_notes new l) before after) (sym none)
+      goes = λ more none. subst (λ l. Progresses (with_notes old (own ++ l)) (IsOver (input_finish k)) (with_notes new l) before after) (sym none)
           (ended-so k (with_notes old (own ++ [])) (with_notes new []) before after over);
     }
 

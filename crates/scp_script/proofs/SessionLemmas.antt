@@ -6,12 +6,13 @@ use Rattle.command_session.specs.declared.next.Next.TheVariants.{Go, Ran, Do, Go
 use Rattle.file_commands.specs.Notes.{handed}
 use Rattle.command_session.specs.Reply.{Answer}
 use Rattle.command_session.specs.Asked.{Asked, asked}
+use Rattle.command_session.specs.DiskFile.{disk_alone}
 use Rattle.script_text.specs.Lines.{line_cost, first_line, command_line}
 use Rattle.session_texts.specs.Lines.{Arrival, InputEnds, Unpaid, LineComes, arrival}
 use Rattle.session_texts.specs.Scripts.{Script, still_open, cost_of_line, text_of_line, echo_text}
 use Rattle.session_texts.specs.Actions.{Texts, texts_of, texts_behind}
 use Rattle.session_texts.proofs.StackLemmas.{still-none}
-use Rattle.scp_script.specs.Session.{State, Session, SessionEnd, ExitDone, AllDone, InputEnded, FlushFailed, BudgetSpent, end_status, state_of, closed, end_state, Following, Going, rested, Over, Upcoming, Ends, Comes, asking_input, asking_in, asking_at, asking, behind_line, behind_script_line, behind_action, upcoming_of, upcoming_in, upcoming_at, upcoming, text_reply, following, text_step, Step, step_upcoming, step, Course, over_by, after_step, texts, course, trace}
+use Rattle.scp_script.specs.Session.{State, Session, SessionEnd, ExitDone, AllDone, InputEnded, FlushFailed, BudgetSpent, NothingSaid, end_status, state_of, closed, end_state, Following, Going, rested, going_on, Over, Upcoming, Ends, Comes, asking_input, asking_in, asking_at, asking, behind_line, behind_script_line, behind_action, upcoming_of, upcoming_in, upcoming_at, upcoming, text_reply, following, text_step, Step, step_upcoming, step, Course, over_by, after_step, texts, course, trace}
 
 pub going-equal : {s t : Session} → Going s ≡ Going t → s ≡ t
 going-equal h = cc
@@ -39,13 +40,18 @@ behind-action-budget : (s : Session) (others : List (List ℕ)) → (behind_acti
 unfolding behind_action
 behind-action-budget s others = refl
 
-pub following-is : (answer : Answer) (s t : Session) → following answer s ≡ Going t → rested s ≡ t
-following-is (Ok (Exit status)) s t h = absurd (cc)
-following-is (Ok Go) s t h = going-equal h
-following-is (Ok (Ran stop)) s t h = going-equal h
-following-is (Ok (Do file)) s t h = going-equal h
-following-is (Ok Goto) s t h = going-equal h
-following-is (Err fault) s t h = going-equal h
+-- it goes on only where the disk alone has changed the disk's file
+going-on-is : (alone : Bool) (s t : Session) → going_on alone s ≡ Going t → s ≡ t
+going-on-is true s t h = going-equal h
+going-on-is false s t h = absurd (cc)
+
+pub following-is : (answer : Answer) (alone : Bool) (s t : Session) → following answer alone s ≡ Going t → rested s ≡ t
+following-is (Ok (Exit status)) alone s t h = absurd (cc)
+following-is (Ok Go) alone s t h = going-on-is alone (rested s) t h
+following-is (Ok (Ran stop)) alone s t h = going-on-is alone (rested s) t h
+following-is (Ok (Do file)) alone s t h = going-on-is alone (rested s) t h
+following-is (Ok Goto) alone s t h = going-on-is alone (rested s) t h
+following-is (Err fault) alone s t h = going-on-is alone (rested s) t h
 
 -- a text keeps the budget of the session behind it
 text-budget : (made : List (Observation State)) (behind t : Session) (what : Asked) → (text_step made behind what).next ≡ Going t → t.budget ≡ behind.budget
@@ -53,7 +59,7 @@ unfolding text_step
 text-budget made behind t what h =
     let reply = text_reply behind.limit behind.texts (handed behind.spent behind.notes) behind.live what in
     ap (λ (x : Session). x.budget)
-    (sym (following-is reply.answer (record behind { live = reply.after.live; notes = drop reply.after.used behind.notes; texts = texts_behind behind.texts what reply.answer reply.after.live.watch }) t h))
+    (sym (following-is reply.answer (disk_alone behind.live reply.after.live) (record behind { live = reply.after.live; notes = drop reply.after.used behind.notes; texts = texts_behind behind.texts what reply.answer reply.after.live.watch }) t h))
 
 arrival-pays : (s t : Session) (a : Arrival) → arrival s.budget s.open_ s.input ≡ a → (step_upcoming s (upcoming_of s a)).next ≡ Going t → t.budget < s.budget
 arrival-pays s t InputEnds e h = absurd (cc)
@@ -331,6 +337,7 @@ end-closing AllDone s = refl
 end-closing InputEnded s = refl
 end-closing FlushFailed s = refl
 end-closing BudgetSpent s = refl
+end-closing NothingSaid s = refl
 
 step-closing : (s : Session) (u : Upcoming) → s.texts.actions ≡ [] → step_upcoming (closing s) u ≡ step_upcoming s u
 step-closing s (Ends end) none =

@@ -1,5 +1,5 @@
 -- A session of which no more is said from some text on, since something beside the disk has changed the disk's file.
-use Rattle.std.proofs.Common.{◌≡◌, ℕ, ◌+◌, Bool, IsTrue, false, List, [], ◌++◌, drop, refl, ap, sym, ◌∙◌, subst, arith, append_assoc, append-nil}
+use Rattle.std.proofs.Common.{◌≡◌, ◌⊎◌, inl, inr, ℕ, ◌+◌, Bool, IsTrue, true, false, List, [], ◌++◌, drop, refl, ap, sym, ◌∙◌, subst, arith, append_assoc, append-nil}
 use Rattle.std.proofs.lemmas.List.{drop-drop}
 use Rattle.observations.specs.Observations.{Observation, text_of, reads_of}
 use Rattle.observations.proofs.MadeLemmas.{text_of-append, reads_of-append}
@@ -9,19 +9,25 @@ use Rattle.host_lines.specs.State.{LineState}
 use Rattle.nova_machine.specs.Comes.{Output}
 use Rattle.nova_machine.proofs.LineSteps.{first-same, first-through}
 use Rattle.file_commands.specs.Notes.{Note}
-use Rattle.command_session.specs.DiskFile.{disk_alone}
+use Rattle.file_traits.specs.Lists.{NamedBytes}
+use Rattle.unit_files.specs.InStep.{InStep}
+use Rattle.nova_machine.specs.Machine.{attached_files}
+use Rattle.command_session.specs.Live.{CommandState, beyond, live_in}
+use Rattle.command_session.specs.DiskFile.{disk_alone, StaysWhereAlone}
+use Rattle.scp_script.specs.declared.progress.CommandLoop.{CommandLoop}
 use Rattle.scp_script.specs.declared.progress.Progress.TheVariants.{GoesOn}
 use Rattle.scp_script.specs.Session.{State, Session, state_of, rested, going_on, step}
-use Rattle.scp_script.specs.Loop.{Stepped}
+use Rattle.scp_script.specs.Loop.{session_of, MayFollow, Stepped, TakesFirst}
 use Rattle.scp_script.specs.Perform.{SaysUpTo, SaysNoMore}
-use Rattle.scp_script.proofs.WholeLemmas.{ComesSoFar, reads-behind}
+use Rattle.scp_script.proofs.NoteLemmas.{none-follow}
+use Rattle.scp_script.proofs.WholeLemmas.{ComesSoFar, further, reads-behind}
 
 -- the text after which nothing is said
 pub breaks : (start now next : List Note → Session) (before mid after : Output) (notes notes' notes'' : List Note) → ((more : List Note) → disk_alone (now more).live (next []).live ≡ false)
     → ComesSoFar start now before mid notes notes' → Stepped now GoesOn next mid after notes' notes'' → SaysUpTo start (next []).input before after notes notes''
 breaks start now next before mid after notes notes' notes'' alone s st =
     let own = st.own ++ [] in
-    let may = record { behind = []; later = []; are = refl; closings = tt; follows = tt } in
+    let may : MayFollow (next []).spent (next []).live [] = none-follow (next []).spent (next []).live [] refl in
     let g = st.goes [] may in
     let r = s.comes own (st.first [] may) in
     record {
@@ -47,9 +53,16 @@ breaks start now next before mid after notes notes' notes'' alone s st =
 pub said-still : (start : List Note → Session) (left left' : List ℕ) (before mid after : Output) (notes notes' notes'' : List Note) (added : List ℕ) (kept : List Note) (n : ℕ)
     → mid.console ++ added ≡ after.console → notes'' ≡ notes' ++ kept → left' ≡ drop n left → SaysUpTo start left before mid notes notes' → SaysUpTo start left' before after notes notes''
 said-still start left left' before mid after notes notes' notes'' added kept n grows keeps drops s =
-    record s {
+    record {
+      own = s.own;
       later = s.later ++ kept;
       kept = keeps ∙ ap (λ l. l ++ kept) s.kept ∙ append_assoc notes (s.own ++ s.later) kept ∙ ap (λ l. notes ++ l) (append_assoc s.own s.later kept);
+      count = s.count;
+      done = s.done;
+      reached = s.reached;
+      comes = s.comes;
+      state = s.state;
+      last = s.last;
       more = s.more ++ added;
       written = sym grows ∙ ap (λ t. t ++ added) s.written ∙ append_assoc before.console (text_of (s.done ++ (step s.reached).made) ++ s.more) added
           ∙ ap (λ t. before.console ++ t) (append_assoc (text_of (s.done ++ (step s.reached).made)) s.more added);
@@ -63,3 +76,61 @@ pub record SaidUpTo (start : List LineAnswer → List Note → Session) (tells :
   pub then_ : LineState
   pub since : IsTrue tells → IsFirst (record_in then_.told) (record_in now.told)
   pub says : (w : List LineAnswer) → IsFirst (record_in then_.told) w → SaysUpTo (start w) left before after notes notes'
+
+-- what comes behind that is behind it still
+pub said-on : (start : List LineAnswer → List Note → Session) (tells : Bool) (mid now : LineState) (left left' : List ℕ) (before printed after : Output) (notes notes' notes'' : List Note) (kept : List Note)
+    → (IsTrue tells → IsFirst (record_in mid.told) (record_in now.told)) → (added : List ℕ) × (after.console ≡ printed.console ++ added) → notes'' ≡ notes' ++ kept → TakesFirst left left'
+    → SaidUpTo start tells mid left before printed notes notes' → SaidUpTo start tells now left' before after notes notes''
+said-on start tells mid now left left' before printed after notes notes' notes'' kept later grows keeps drops s = record {
+  then_ = s.then_;
+  since = λ told. first-through (record_in s.then_.told) (record_in mid.told) (record_in now.told) (s.since told) (later told);
+  says = λ w begins. said-still (start w) left left' before printed after notes notes' notes'' grows.0 kept drops.0 (sym grows.1) keeps drops.1 (s.says w begins);
+}
+
+-- at the end: of what was recorded then, where lines tell nothing
+pub no-more : (start : List LineAnswer → List Note → Session) (tells : Bool) (now : LineState) (whole : List LineAnswer) (left : List ℕ) (before after : Output) (notes notes' : List Note)
+    → IsFirst (record_in now.told) whole → SaidUpTo start tells now left before after notes notes' → SaysNoMore start tells whole left before after notes notes'
+no-more start true now whole left before after notes notes' begins s = record {
+  recorded = whole;
+  same = λ told. refl;
+  says = s.says whole (first-through (record_in s.then_.told) (record_in now.told) whole (s.since refl) begins);
+}
+no-more start false now whole left before after notes notes' begins s = record {
+  recorded = record_in s.then_.told;
+  same = λ told. absurd (cc);
+  says = s.says (record_in s.then_.told) (first-same (record_in s.then_.told));
+}
+
+-- the test asks for no line
+same-alone : (s t : CommandState) (files files' : List NamedBytes) (a b c d : LineState) (u v w x : List LineAnswer)
+    → disk_alone (live_in s (beyond files a u)) (live_in t (beyond files' b v)) ≡ disk_alone (live_in s (beyond files c w)) (live_in t (beyond files' d x))
+unfolding disk_alone
+same-alone s t files files' a b c d u v w x = refl
+
+-- Behind a text after which a session goes on, either it was the disk alone that changed the disk's file, and all is in step and
+-- said so far; or no more is said from there on.
+pub turned : (start : List LineAnswer → List Note → Session) (tells : Bool) (s t : CommandState) (files files' : List NamedBytes) (mid now : LineState) (l l' : CommandLoop) (left left' : List ℕ)
+    (before printed after : Output) (notes notes' notes'' : List Note) → IsFirst (record_in mid.told) (record_in now.told) → StaysWhereAlone s t files files' → InStep (attached_files s.machine) files
+    → ((w : List LineAnswer) → IsFirst (record_in mid.told) w → ComesSoFar (start w) (session_of s (beyond files mid w) l left) before printed notes notes')
+    → ((w : List LineAnswer) → IsFirst (record_in now.told) w → Stepped (session_of s (beyond files mid w) l left) GoesOn (session_of t (beyond files' now w) l' left') printed after notes' notes'')
+    → SaidUpTo start tells now left' before after notes notes''
+      ⊎ (InStep (attached_files t.machine) files'
+      × ((w : List LineAnswer) → IsFirst (record_in now.told) w → ComesSoFar (start w) (λ n. rested (session_of t (beyond files' now w) l' left' n)) before after notes notes''))
+turned start tells s t files files' mid now l l' left left' before printed after notes notes' notes'' later stays step comes steps =
+    by-test (disk_alone (live_in s (beyond files mid [])) (live_in t (beyond files' now []))) refl
+  where
+    by-test : (b : Bool) → disk_alone (live_in s (beyond files mid [])) (live_in t (beyond files' now [])) ≡ b
+        → SaidUpTo start tells now left' before after notes notes''
+          ⊎ (InStep (attached_files t.machine) files'
+          × ((w : List LineAnswer) → IsFirst (record_in now.told) w → ComesSoFar (start w) (λ n. rested (session_of t (beyond files' now w) l' left' n)) before after notes notes''))
+    by-test true alone = inr (
+      stays step mid now [] [] alone,
+      λ w begins. further (start w) (session_of s (beyond files mid w) l left) (session_of t (beyond files' now w) l' left') before printed after notes notes' notes''
+          (λ more more'. same-alone s t files files' mid now mid now w w [] [] ∙ alone) (comes w (first-through (record_in mid.told) (record_in now.told) w later begins)) (steps w begins),
+    )
+    by-test false alone = inl (record {
+      then_ = now;
+      since = λ told. first-same (record_in now.told);
+      says = λ w begins. breaks (start w) (session_of s (beyond files mid w) l left) (session_of t (beyond files' now w) l' left') before printed after notes notes' notes''
+          (λ more. same-alone s t files files' mid now mid now w w [] [] ∙ alone) (comes w (first-through (record_in mid.told) (record_in now.told) w later begins)) (steps w begins);
+    })

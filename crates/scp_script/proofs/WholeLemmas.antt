@@ -1,5 +1,5 @@
 -- All lines of a session, one behind another.
-use Rattle.std.proofs.Common.{Option, ◌≡◌, inl, ℕ, zero, suc, ◌+◌, Bool, List, [], ◌∷◌, ◌++◌, length, drop, refl, ap, sym, ◌∙◌, subst, arith, append_assoc, append-nil, zero-add, length-append}
+use Rattle.std.proofs.Common.{Option, ◌≡◌, inl, ℕ, zero, suc, ◌+◌, Bool, true, List, [], ◌∷◌, ◌++◌, length, drop, refl, ap, sym, ◌∙◌, subst, arith, append_assoc, append-nil, zero-add, length-append}
 use Rattle.std.proofs.lemmas.List.{drop-drop}
 use Rattle.fault_counts.specs.Faults.{raised}
 use Rattle.file_traits.specs.State.{FileState}
@@ -69,7 +69,7 @@ reached-none start before = record {
 }
 
 pub reads-behind : (m n : ℕ) (o1 o2 o3 : Bool) (i1 i2 i3 : List ℕ) → AreRead m o1 i1 o2 i2 → AreRead n o2 i2 o3 i3 → AreRead (m + n) o1 i1 o3 i3
-pub reads-behind m n o1 o2 o3 i1 i2 i3 a b = record {
+reads-behind m n o1 o2 o3 i1 i2 i3 a b = record {
   rest = b.rest ∙ ap (drop n) a.rest ∙ drop-drop n m i1;
   count = omega (arith, a.count, b.count);
 }

@@ -1,6 +1,6 @@
 -- What the calls of the loop over texts come to, for a console that had and has these bytes, callers of lines that had and
 -- have heard these, and an input that let so many reads through.
-use Rattle.std.specs.Prelude.{◌≡◌, ◌≢◌, ◌⊎◌, ℕ, ◌+◌, ◌*◌, ◌^◌, ◌<◌, ◌≤◌, Bool, IsTrue, List, [], ◌++◌, length, Option, Some, None, Ok, Err, true, false}
+use Rattle.std.specs.Prelude.{◌≡◌, ◌≢◌, ◌⊎◌, ℕ, ◌+◌, ◌*◌, ◌^◌, ◌<◌, ◌≤◌, Bool, IsTrue, List, [], ◌++◌, length, drop, Option, Some, None, Ok, Err, true, false}
 use Rattle.std.specs.List.{AllByRecursion}
 use Rattle.fault_counts.specs.Faults.{raised}
 use Rattle.file_traits.specs.declared.files.FileCall.TheVariants.{Closing}
@@ -335,6 +335,10 @@ KeptCause finish slots notes old new = Unit {0}
 abbrev pub KeptInLine : Progress → List (Option Held) → List FaultNote → FileState → FileState → Type 0
 KeptInLine GoesOn slots notes old new = Unit {0}
 KeptInLine (IsOver finish) slots notes old new = KeptCause finish slots notes old new
+
+-- of an input nothing was taken but so many first bytes
+abbrev pub TakesFirst : List ℕ → List ℕ → Type 0
+TakesFirst input left = (count : ℕ) × (left ≡ drop count input)
 
 -- a text after which the session goes on costs a unit, told or not
 abbrev pub PaysFor : ℕ → Progress → ℕ → Type 0

@@ -216,6 +216,7 @@ fn follow<S: Sink>(
     ensures told { (heard : Heard)
         → Follows watch.now next command.now result (coming texts.old) (coming texts.new) S.tells
         (output (S.written out.old) heard) (output (S.written out.new) heard) }
+    ensures grows { Grows S.tells (S.written out.old) (S.written out.new) }
     ensures counts { AnswerCounts result (S.fault_count out.old) (S.fault_count out.new) }
     ensures exit { HasExitStatus result }
     ensures asked { EndOf (Ok command.now) result }
@@ -318,6 +319,7 @@ pub fn deny_line<U: Unit, S: Sink>(
         → IsAnswer (text_reply session.now.limit (coming texts.old) notes (live_in session.now around) what)
         (texts_behind (coming texts.old) what) result (coming texts.new) (standing 0 (live_in session.now around))
         S.tells (output (S.written out.old) heard) (output (S.written out.new) heard) }
+    ensures grows { Grows S.tells (S.written out.old) (S.written out.new) }
     ensures memory { result ≢ IsOver OutOfMemory }
     ensures counts { AnswerCounts result (S.fault_count out.old) (S.fault_count out.new) }
     ensures exit { HasExitStatus result }

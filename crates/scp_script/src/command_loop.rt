@@ -20,7 +20,7 @@ ghost use Rattle.session_texts.specs.Reading.{IsReading, Pays};
 ghost use Rattle.session_texts.specs.Scripts.{cost_of_line, still_open};
 ghost use Rattle.scp_script.specs.Session.{prompt_text, spent_more};
 ghost use Rattle.scp_script.specs.Loop.{session_of, NumbersSuffice, Stepped, ProgressCause, PaysFor};
-ghost use Rattle.scp_script.specs.Loop.{AreKeptFor, KeptInLine};
+ghost use Rattle.scp_script.specs.Loop.{AreKeptFor, KeptInLine, TakesFirst};
 ghost use Rattle.scp_script.specs.Used.{NextTold};
 ghost use Rattle.scp_script.specs.Spending.{OpensOne, TextCause};
 
@@ -87,6 +87,7 @@ pub fn next_line<U: Unit, C: Source, F: Files, L: Lines, S: Sink>(
         (F.state files.old) (F.state files.new) }
     ensures kept { KeptInLine result session.new.machine.slots session.new.notes (F.state files.old)
         (F.state files.new) }
+    ensures drops { (lines.old.reads ≡ true → IsTrue C.tells) → TakesFirst (C.left input.old) (C.left input.new) }
     ensures unread { lines.old.reads ≡ false → input.new ≡ input.old }
     ensures reads { lines.new.reads ≡ lines.old.reads }
     ensures keys { session.new.keys ≡ session.old.keys }
@@ -236,6 +237,7 @@ fn input_line<U: Unit, C: Source, F: Files, L: Lines, S: Sink>(
         (F.state files.old) (F.state files.new) }
     ensures kept { KeptInLine result session.new.machine.slots session.new.notes (F.state files.old)
         (F.state files.new) }
+    ensures drops { IsTrue C.tells → TakesFirst (C.left input.old) (C.left input.new) }
     ensures reads { lines.new.reads ≡ lines.old.reads }
     ensures keys { session.new.keys ≡ session.old.keys }
     ensures limit { session.new.limit ≡ session.old.limit }

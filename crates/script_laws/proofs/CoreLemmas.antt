@@ -10,11 +10,12 @@ use Rattle.file_commands.specs.Notes.{Note}
 use Rattle.command_session.specs.Live.{Live}
 use Rattle.command_session.specs.Reply.{Answer}
 use Rattle.command_session.specs.Asked.{Asked, asked}
+use Rattle.command_session.specs.DiskFile.{disk_alone}
 use Rattle.script_text.specs.Lines.{line_cost, first_line}
 use Rattle.session_texts.specs.Lines.{Arrival, InputEnds, Unpaid, LineComes, arrival}
 use Rattle.session_texts.specs.Scripts.{Script, still_open, cost_of_line, text_of_line}
 use Rattle.session_texts.specs.Actions.{texts_behind}
-use Rattle.scp_script.specs.Session.{State, Session, spent_more, SessionEnd, ExitDone, AllDone, InputEnded, FlushFailed, BudgetSpent, closed, end_state, Following, Going, Over, following, Upcoming, Ends, Comes, asking, behind_line, behind_script_line, behind_action, upcoming_of, upcoming_in, upcoming_at, upcoming, step_upcoming, text_reply, text_step, step, Course, after_step, over_by, texts, course, trace, ComesTo}
+use Rattle.scp_script.specs.Session.{State, Session, spent_more, SessionEnd, ExitDone, AllDone, InputEnded, FlushFailed, BudgetSpent, NothingSaid, closed, end_state, Following, Going, Over, rested, going_on, following, Upcoming, Ends, Comes, asking, behind_line, behind_script_line, behind_action, upcoming_of, upcoming_in, upcoming_at, upcoming, step_upcoming, text_reply, text_step, step, Course, after_step, over_by, texts, course, trace, ComesTo}
 use Rattle.script_laws.specs.Core.{Core, core_of, session_at, SameCore, NoneFails, SameNext, SameStep, SameCoreSameFuture, after_all, CutBehindTexts}
 use Rattle.scp_script.proofs.SessionLemmas.{line-by-line}
 
@@ -86,6 +87,7 @@ same-end c n m AllDone = refl
 same-end c n m InputEnded = refl
 same-end c n m FlushFailed = refl
 same-end c n m BudgetSpent = refl
+same-end c n m NothingSaid = refl
 
 -- ---- one text
 
@@ -99,17 +101,23 @@ left_at d k what =
 none-left : (d : Core) (k : ℕ) (what : Asked) → NoneFails (left_at d k what)
 none-left d k what = drop-nil (text_reply d.limit d.texts [] d.live what).after.used
 
-same-following : (d : Core) (k l : ℕ) (what : Asked) (answer : Answer) → SameNext (following answer (left_at d k what)) (following answer (left_at d l what))
-same-following d k l what (Ok (Exit status)) = (refl, refl)
-same-following d k l what (Ok Go) = (refl, none-left d k what, none-left d l what)
-same-following d k l what (Ok (Ran stop)) = (refl, none-left d k what, none-left d l what)
-same-following d k l what (Ok (Do file)) = (refl, none-left d k what, none-left d l what)
-same-following d k l what (Ok Goto) = (refl, none-left d k what, none-left d l what)
-same-following d k l what (Err fault) = (refl, none-left d k what, none-left d l what)
+same-going_on : (d : Core) (k l : ℕ) (what : Asked) (alone : Bool) → SameNext (going_on alone (rested (left_at d k what))) (going_on alone (rested (left_at d l what)))
+same-going_on d k l what true = (refl, none-left d k what, none-left d l what)
+same-going_on d k l what false = (refl, λ i. record { live = (rested (left_at d k what)).live; notes = (none-left d k what ∙ sym (none-left d l what)) i })
+
+same-following : (d : Core) (k l : ℕ) (what : Asked) (answer : Answer) (alone : Bool) → SameNext (following answer alone (left_at d k what)) (following answer alone (left_at d l what))
+same-following d k l what (Ok (Exit status)) alone = (refl, refl)
+same-following d k l what (Ok Go) alone = same-going_on d k l what alone
+same-following d k l what (Ok (Ran stop)) alone = same-going_on d k l what alone
+same-following d k l what (Ok (Do file)) alone = same-going_on d k l what alone
+same-following d k l what (Ok Goto) alone = same-going_on d k l what alone
+same-following d k l what (Err fault) alone = same-going_on d k l what alone
 
 same-text : (made : List (Observation State)) (d : Core) (k l : ℕ) (what : Asked) → SameStep (text_step made (session_at d k) what) (text_step made (session_at d l) what)
 unfolding text_step
-same-text made d k l what = record { made = refl; next = same-following d k l what (text_reply d.limit d.texts [] d.live what).answer }
+same-text made d k l what =
+    let reply = text_reply d.limit d.texts [] d.live what in
+    record { made = refl; next = same-following d k l what reply.answer (disk_alone d.live reply.after.live) }
 
 same-step-of : (c : Core) (n m : ℕ) (u v : Upcoming) → SameUpcoming u v → SameStep (step_upcoming (session_at c n) u) (step_upcoming (session_at c m) v)
 same-step-of c n m (Ends end) (Ends other) h = record { made = same-asking c n m; next = (h, same-end c n m end ∙ ap (λ e. end_state e (session_at c m)) h) }

@@ -5,6 +5,7 @@ use Rattle.std.proofs.lemmas.Bool.{leb-true, leb-false}
 use Rattle.observations.specs.Observations.{Observation, Prints, reads_of}
 use Rattle.observations.proofs.MadeLemmas.{reads_of-append}
 use Rattle.command_session.specs.Asked.{asked}
+use Rattle.command_session.specs.DiskFile.{disk_alone}
 use Rattle.script_text.specs.Lines.{first_line, line_cost}
 use Rattle.session_texts.specs.Lines.{Arrival, InputEnds, Unpaid, LineComes, arrival}
 use Rattle.session_texts.specs.Scripts.{Script, still_open, cost_of_line, text_of_line, echo_text}
@@ -42,7 +43,7 @@ record IsNextScript (s t : Session) : Type 0 where
 left-is : (s behind t : Session) (text : List ℕ) → upcoming s ≡ Comes text behind → (step s).next ≡ Going t → rested (left_by behind (asked text)) ≡ t
 left-is s behind t text e h =
     let is = step-comes s behind text (asked text) e refl in
-    following-is (reply_in behind (asked text)).answer (left_by behind (asked text)) t (sym (text-next s behind (asked text)) ∙ sym (ap (λ (x : Step). x.next) is) ∙ h)
+    following-is (reply_in behind (asked text)).answer (disk_alone behind.live (reply_in behind (asked text)).after.live) (left_by behind (asked text)) t (sym (text-next s behind (asked text)) ∙ sym (ap (λ (x : Step). x.next) is) ∙ h)
 
 step-reads : (s behind : Session) (text : List ℕ) → upcoming s ≡ Comes text behind → reads_of (step s).made ≡ reads_of (asking s)
 step-reads s behind text e =

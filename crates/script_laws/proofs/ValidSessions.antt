@@ -8,7 +8,7 @@ use Rattle.observations.proofs.MadeLemmas.{stands-either, stands-mapped}
 use Rattle.file_commands.specs.Notes.{CommandNote, handed}
 use Rattle.expect_actions.specs.Watch.{forgotten}
 use Rattle.nova_machine.specs.Comes.{Output}
-use Rattle.nova_machine.specs.Valid.{AreBytes}
+use Rattle.nova_machine.specs.Valid.{AreBytes, DiskIsItsFile}
 use Rattle.machine_laws.proofs.ValidBytes.{bytes-drop}
 use Rattle.script_text.specs.Lines.{first_line, command_line, line_cost}
 use Rattle.script_text.proofs.ByteLemmas.{line_bytes}
@@ -19,15 +19,17 @@ use Rattle.command_session.specs.Live.{Live, Standing}
 use Rattle.command_session.specs.Remains.{flushes_of}
 use Rattle.command_session.specs.Reply.{Answer, Reply}
 use Rattle.command_session.specs.Asked.{Asked, asked}
+use Rattle.command_session.specs.DiskFile.{disk_alone}
 use Rattle.scp_commands.specs.Effect.{does}
-use Rattle.command_laws.specs.Valid.{ValidLive, CopyFollows}
+use Rattle.command_laws.specs.Valid.{ValidLive, CopyFollows, CopyStays}
+use Rattle.command_laws.proofs.ValidCopies.{copy-tested}
 use Rattle.command_laws.proofs.ValidWatch.{watch-forgotten}
 use Rattle.command_laws.proofs.ValidEffect.{StandsBy, watch-live, stands-refused, stands-emptied, stands-effect, remains-valid}
 use Rattle.session_texts.specs.Lines.{Arrival, InputEnds, Unpaid, LineComes, arrival}
 use Rattle.session_texts.specs.Scripts.{Script, most_scripts, still_open, cost_of_line, text_of_line, echo_text, checked, settled_answer}
 use Rattle.session_texts.specs.Actions.{Texts, texts_of, texts_behind}
-use Rattle.scp_script.specs.Session.{State, Session, state_of, state_at, asking_input, asking_in, asking_at, asking, behind_line, behind_script_line, behind_action, SessionEnd, ExitDone, AllDone, InputEnded, FlushFailed, BudgetSpent}
-use Rattle.scp_script.specs.Session.{Upcoming, Ends, Comes, upcoming_of, upcoming_in, upcoming_at, upcoming, complaint, text_reply, flushes_in, flushes_next, Following, Going, Over, rested, following, Step, text_step, closed, end_state, step_upcoming, step, Course, after_step, texts, course, trace, ComesTo}
+use Rattle.scp_script.specs.Session.{State, Session, state_of, state_at, asking_input, asking_in, asking_at, asking, behind_line, behind_script_line, behind_action, SessionEnd, ExitDone, AllDone, InputEnded, FlushFailed, BudgetSpent, NothingSaid}
+use Rattle.scp_script.specs.Session.{Upcoming, Ends, Comes, upcoming_of, upcoming_in, upcoming_at, upcoming, complaint, text_reply, flushes_in, flushes_next, Following, Going, Over, rested, going_on, following, Step, text_step, closed, end_state, step_upcoming, step, Course, after_step, texts, course, trace, ComesTo}
 use Rattle.scp_script.specs.declared.progress.Finish.{Finish}
 use Rattle.scp_script.specs.declared.progress.Finish.TheVariants.{OutOfMemory}
 use Rattle.scp_script.specs.Perform.{IsSession, IsPerformed}
@@ -170,7 +172,8 @@ record Comes_to (t : Texts) (live : Live) (what : Asked) (reply : Reply) : Type 
   after : ValidLive reply.after.live
   made : (at : Standing) → StandsAt at reply.made → ValidLive at.live
   texts : ValidTexts (texts_behind t what reply.answer reply.after.live.watch)
-  copy : CopyFollows (flushes_of (checked t.scripts what)) live reply.after.live
+  copy : CopyFollows live reply.after.live
+  stays : CopyStays (flushes_of (checked t.scripts what)) live reply.after.live
 
 text-comes : (limit : ℕ) (t : Texts) (notes : List CommandNote) (live : Live) (what : Asked) → ValidLive live → ValidTexts t → IsValidAsked what → Comes_to t live what (text_reply limit t notes live what)
 unfolding text_reply
@@ -186,7 +189,8 @@ text-comes limit t notes live what is valid good =
       ];
       texts = texts-valid t what answer reply.after.live.watch valid good (settled-gives t.scripts what reply.answer stands.valid.script)
           (settled-room t.scripts what reply.answer (does-room t.scripts limit notes live what)) stands.valid.after.valid.watch;
-      copy = stands.copy;
+      copy = copy-tested live reply.after.live stands.holds;
+      stays = stands.stays;
     }
 
 -- ---- one text of a session
@@ -195,39 +199,54 @@ text-comes limit t notes live what is valid good =
 record IsGoodNext (flushes : Bool) (live : Live) (next : Following) : Type 0 where
   going : (t : Session) → next ≡ Going t → Holds t
   over : (end : SessionEnd) (at : State) → next ≡ Over end at → ValidLive at.live
-  copy : (t : Session) → next ≡ Going t → CopyFollows flushes live t.live
-  closed : (end : SessionEnd) (at : State) → next ≡ Over end at → CopyFollows flushes live at.live
+  copy : (t : Session) → next ≡ Going t → DiskIsItsFile live → DiskIsItsFile t.live
+  closed : (end : SessionEnd) (at : State) → next ≡ Over end at → CopyFollows live at.live
+  stays : (end : SessionEnd) (at : State) → next ≡ Over end at → CopyStays flushes live at.live
 
-good-going : {flushes : Bool} (live : Live) (t : Session) → Holds t → CopyFollows flushes live t.live → IsGoodNext flushes live (Going t)
-good-going {flushes} live t holds copy = record {
+good-going : {flushes : Bool} (live : Live) (t : Session) → Holds t → (DiskIsItsFile live → DiskIsItsFile t.live) → IsGoodNext flushes live (Going t)
+good-going live t holds copy = record {
   going = λ u h. let same : t ≡ u = cc h in subst Holds same holds;
   over = λ end at h. absurd (cc h);
-  copy = λ u h. let same : t ≡ u = cc h in subst (λ (x : Session). CopyFollows flushes live x.live) same copy;
+  copy = λ u h. let same : t ≡ u = cc h in subst (λ (x : Session). DiskIsItsFile live → DiskIsItsFile x.live) same copy;
   closed = λ end at h. absurd (cc h);
+  stays = λ end at h. absurd (cc h);
 }
 
-good-over : {flushes : Bool} (live : Live) (end : SessionEnd) (state : State) → ValidLive state.live → CopyFollows flushes live state.live → IsGoodNext flushes live (Over end state)
-good-over {flushes} live end state is copy = record {
+good-over : {flushes : Bool} (live : Live) (end : SessionEnd) (state : State) → ValidLive state.live → CopyFollows live state.live → CopyStays flushes live state.live
+    → IsGoodNext flushes live (Over end state)
+good-over {flushes} live end state is copy stays = record {
   going = λ u h. absurd (cc h);
   over = λ other at h. let same : state ≡ at = cc h in subst (λ (x : State). ValidLive x.live) same is;
   copy = λ u h. absurd (cc h);
-  closed = λ other at h. let same : state ≡ at = cc h in subst (λ (x : State). CopyFollows flushes live x.live) same copy;
+  closed = λ other at h. let same : state ≡ at = cc h in subst (λ (x : State). CopyFollows live x.live) same copy;
+  stays = λ other at h. let same : state ≡ at = cc h in subst (λ (x : State). CopyStays flushes live x.live) same stays;
 }
 
 rested-holds : (s : Session) → Holds s → Holds (rested s)
 rested-holds s is = record { live = watch-live s.live (forgotten s.live.watch) is.live (watch-forgotten s.live.watch is.live.valid.watch); texts = is.texts; input = is.input }
 
 -- its tables are no part of that
-copy-rested : {flushes : Bool} (live : Live) (s : Session) → CopyFollows flushes live s.live → CopyFollows flushes live (rested s).live
-copy-rested live s copy is follows = copy is (λ none. record { clean = (follows none).clean; back = (follows none).back })
+copy-rested : (live : Live) (s : Session) → CopyFollows live s.live → CopyFollows live (rested s).live
+unfolding disk_alone
+copy-rested live s copy = λ is alone. copy is alone
 
-good-following : {flushes : Bool} (live : Live) (answer : Answer) (s : Session) → Holds s → CopyFollows flushes live s.live → IsGoodNext flushes live (following answer s)
-good-following live (Ok (Exit status)) s is copy = good-over live (ExitDone status) (state_of s) is.live copy
-good-following live (Ok Go) s is copy = good-going live (rested s) (rested-holds s is) (copy-rested live s copy)
-good-following live (Ok (Ran stop)) s is copy = good-going live (rested s) (rested-holds s is) (copy-rested live s copy)
-good-following live (Ok (Do file)) s is copy = good-going live (rested s) (rested-holds s is) (copy-rested live s copy)
-good-following live (Ok Goto) s is copy = good-going live (rested s) (rested-holds s is) (copy-rested live s copy)
-good-following live (Err fault) s is copy = good-going live (rested s) (rested-holds s is) (copy-rested live s copy)
+stays-rested : {flushes : Bool} (live : Live) (s : Session) → CopyStays flushes live s.live → CopyStays flushes live (rested s).live
+stays-rested live s stays = λ is clean leaves. stays is clean leaves
+
+good-going_on : {flushes : Bool} (live : Live) (s : Session) (alone : Bool) → disk_alone live s.live ≡ alone → Holds s → CopyFollows live s.live → CopyStays flushes live s.live
+    → IsGoodNext flushes live (going_on alone (rested s))
+good-going_on live s true alone is copy stays = good-going live (rested s) (rested-holds s is) (λ held. copy held alone)
+good-going_on live s false alone is copy stays =
+    good-over live NothingSaid (state_of (rested s)) (rested-holds s is).live (copy-rested live s copy) (stays-rested live s stays)
+
+good-following : {flushes : Bool} (live : Live) (answer : Answer) (s : Session) → Holds s → CopyFollows live s.live → CopyStays flushes live s.live
+    → IsGoodNext flushes live (following answer (disk_alone live s.live) s)
+good-following live (Ok (Exit status)) s is copy stays = good-over live (ExitDone status) (state_of s) is.live copy stays
+good-following live (Ok Go) s is copy stays = good-going_on live s (disk_alone live s.live) refl is copy stays
+good-following live (Ok (Ran stop)) s is copy stays = good-going_on live s (disk_alone live s.live) refl is copy stays
+good-following live (Ok (Do file)) s is copy stays = good-going_on live s (disk_alone live s.live) refl is copy stays
+good-following live (Ok Goto) s is copy stays = good-going_on live s (disk_alone live s.live) refl is copy stays
+good-following live (Err fault) s is copy stays = good-going_on live s (disk_alone live s.live) refl is copy stays
 
 -- and all of it
 record IsGoodStep (flushes : Bool) (live : Live) (x : Step) : Type 0 where
@@ -249,7 +268,7 @@ text-good first behind what is valid before =
       ];
       next = good-following behind.live reply.answer
           (record behind { live = reply.after.live; notes = drop reply.after.used behind.notes; texts = texts_behind behind.texts what reply.answer reply.after.live.watch })
-          (record { live = comes.after; texts = comes.texts; input = is.input }) comes.copy;
+          (record { live = comes.after; texts = comes.texts; input = is.input }) comes.copy comes.stays;
     }
 
 -- ---- what comes before it
@@ -283,17 +302,24 @@ closed-good : (s : Session) (end : SessionEnd) → Holds s → IsGoodNext false 
 unfolding closed
 closed-good s end is =
     let stands = stands-emptied Go (handed s.spent s.notes) s.live tt is.live in
-    good-over s.live end (closed s) stands.valid.after stands.copy
+    good-over s.live end (closed s) stands.valid.after (copy-tested s.live (closed s).live stands.holds) stands.stays
 
-copy-here : (live : Live) → CopyFollows false live live
-copy-here live is leaves = is
+copy-here : (live : Live) → CopyFollows live live
+copy-here live = λ is alone. is
+
+stays-here : (live : Live) → CopyStays false live live
+stays-here live = λ is clean leaves. is
+
+left-here : (s : Session) (end : SessionEnd) → Holds s → IsGoodNext false s.live (Over end (state_of s))
+left-here s end is = good-over s.live end (state_of s) is.live (copy-here s.live) (stays-here s.live)
 
 end-good : (s : Session) (end : SessionEnd) → Holds s → IsGoodNext false s.live (Over end (end_state end s))
 end-good s InputEnded is = closed-good s InputEnded is
 end-good s FlushFailed is = closed-good s FlushFailed is
-end-good s (ExitDone status) is = good-over s.live (ExitDone status) (state_of s) is.live (copy-here s.live)
-end-good s AllDone is = good-over s.live AllDone (state_of s) is.live (copy-here s.live)
-end-good s BudgetSpent is = good-over s.live BudgetSpent (state_of s) is.live (copy-here s.live)
+end-good s (ExitDone status) is = left-here s (ExitDone status) is
+end-good s AllDone is = left-here s AllDone is
+end-good s BudgetSpent is = left-here s BudgetSpent is
+end-good s NothingSaid is = left-here s NothingSaid is
 
 upcoming-good : (s : Session) (u : Upcoming) → Holds s → IsGoodUpcoming s u → IsGoodStep (flushes_in u) s.live (step_upcoming s u)
 upcoming-good s (Ends end) is good = record { made = asking-valid s is.live; next = end-good s end is }
@@ -341,6 +367,13 @@ next-valid s t is h =
 all-valid : (count : ℕ) (s t : Session) (made : List (Observation State)) → ValidSession s → ComesTo count s made t → ValidSession t
 all-valid zero s t made is (none, same) = subst ValidSession same is
 all-valid (suc count) s t made is (mid, more, goes, are, rest) = all-valid count mid t more (next-valid s mid is goes) rest
+
+next-disk : (s t : Session) → ValidSession s → (step s).next ≡ Going t → DiskIsItsFile s.live → DiskIsItsFile t.live
+next-disk s t is h = (step-good s (session-holds s is)).next.copy t h
+
+all-disk : (count : ℕ) (s t : Session) (made : List (Observation State)) → ValidSession s → DiskIsItsFile s.live → ComesTo count s made t → DiskIsItsFile t.live
+all-disk zero s t made is held (none, same) = subst (λ (x : Session). DiskIsItsFile x.live) same held
+all-disk (suc count) s t made is held (mid, more, goes, are, rest) = all-disk count mid t more (next-valid s mid is goes) (next-disk s mid is goes held) rest
 
 record IsGoodCourse (c : Course) : Type 0 where
   made : (at : State) → StandsAt at c.trace.made → ValidLive at.live
@@ -392,7 +425,9 @@ sessions-stay-valid = record {
   all = all-valid;
   made = λ s at is h. trace-made s (session-holds s is) at h;
   ended = λ s is. trace-ended s (session-holds s is);
-  disk = λ s t is h. (step-good s (session-holds s is)).next.copy t h;
+  disk = next-disk;
+  disk_all = all-disk;
   closed = λ s end at is h. (step-good s (session-holds s is)).next.closed end at h;
+  stays = λ s end at is h. (step-good s (session-holds s is)).next.stays end at h;
   left = left-valid;
 }

@@ -4,9 +4,9 @@ use Rattle.std.specs.List.{AllByRecursion}
 use Rattle.observations.specs.Observations.{Observation, StandsAt}
 use Rattle.expect_actions.specs.Actions.{most_actions}
 use Rattle.nova_machine.specs.Comes.{Output}
-use Rattle.nova_machine.specs.Valid.{AreBytes}
+use Rattle.nova_machine.specs.Valid.{AreBytes, DiskIsItsFile}
 use Rattle.command_session.specs.Live.{Live}
-use Rattle.command_laws.specs.Valid.{ValidLive, CopyFollows}
+use Rattle.command_laws.specs.Valid.{ValidLive, CopyFollows, CopyStays}
 use Rattle.scp_script.specs.declared.progress.Finish.{Finish}
 use Rattle.session_texts.specs.Scripts.{Script, most_scripts}
 use Rattle.session_texts.specs.Actions.{Texts}
@@ -46,11 +46,15 @@ pub record SessionsStayValid : Type 0 where
   -- wherever something is made, and at the end
   pub made : (s : Session) (at : State) → ValidSession s → StandsAt at (trace s).made → ValidLive at.live
   pub ended : (s : Session) → ValidSession s → ValidLive (trace s).ended.state.live
-  -- and the disk's copy is that of its file still
-  pub disk : (s t : Session) → ValidSession s → (step s).next ≡ Going t
-      → CopyFollows (flushes_next s) s.live t.live
+  -- And the disk's copy is that of its file still: behind one text, and behind many, since the session goes on only where the
+  -- disk alone has changed that file. At an end so it is where that is so, and where the file is as it was.
+  pub disk : (s t : Session) → ValidSession s → (step s).next ≡ Going t → DiskIsItsFile s.live → DiskIsItsFile t.live
+  pub disk_all : (count : ℕ) (s t : Session) (made : List (Observation State)) → ValidSession s → DiskIsItsFile s.live
+      → ComesTo count s made t → DiskIsItsFile t.live
   pub closed : (s : Session) (end : SessionEnd) (at : State) → ValidSession s → (step s).next ≡ Over end at
-      → CopyFollows (flushes_next s) s.live at.live
+      → CopyFollows s.live at.live
+  pub stays : (s : Session) (end : SessionEnd) (at : State) → ValidSession s → (step s).next ≡ Over end at
+      → CopyStays (flushes_next s) s.live at.live
   -- what a call has left that performs a session, over whichever console and input, also where memory ran out
   pub left : (start : Session) (finish : Finish) (live : Live) (rest : List ℕ) (before after : Output) → ValidSession start
       → IsPerformed start finish live rest before after → ValidLive live

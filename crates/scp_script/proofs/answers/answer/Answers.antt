@@ -15,10 +15,11 @@ use Rattle.scp_script.proofs.TextLemmas.{answers-none}
 use Rattle.scp_script.proofs.SpendingLemmas.{no-exit, opens-failed}
 use Rattle.scp_script.proofs.NoteLemmas.{never-short}
 use Rattle.scp_script.proofs.KeptLemmas.{kept-none}
+use Rattle.scp_script.proofs.GrowLemmas.{stays-same}
 use Rattle.scp_script.proofs.answers.answer.Goals as goal
 
 pub returns-in-Ok-clause-told : goal.returns-in-Ok-clause-told
-returns-in-Ok-clause-told g c = λ used apart whole first.
+returns-in-Ok-clause-told g c = λ used apart step whole first.
     let session = c.args.session.now in
     let ports = g.L.Lines.state c.args.lines.now in
     let ports' = g.L.Lines.state c.obey.new.lines in
@@ -27,10 +28,10 @@ returns-in-Ok-clause-told g c = λ used apart whole first.
     let is = asked-as c.args.line.now (Ok c.read_command.new.into) c.in-Ok.ensures.exact in
     subst (λ (a : Asked). Answers session.limit live (coming c.args.texts.now) a session.command c.obey.result new (coming c.obey.new.texts) g.S.Sink.tells
     (output (g.S.Sink.written c.args.out.now) ports.sent) (output (g.S.Sink.written c.obey.new.out) ports'.sent) (notes_said session.notes) (notes_said c.obey.new.session.notes))
-    (sym is) (c.obey.ensures.told (subst (λ (a : Asked). TextTold g.F.Files.tells g.L.Lines.tells session.machine c.args.texts.now.scripts a) is used) apart whole first)
+    (sym is) (c.obey.ensures.told (subst (λ (a : Asked). TextTold g.F.Files.tells g.L.Lines.tells session.machine c.args.texts.now.scripts a) is used) apart step whole first)
 
 pub returns-in-Err-clause-told : goal.returns-in-Err-clause-told
-returns-in-Err-clause-told g c = λ used apart whole first.
+returns-in-Err-clause-told g c = λ used apart step whole first.
     let session = c.args.session.now in
     let texts = coming c.args.texts.now in
     let ports = g.L.Lines.state c.args.lines.now in
@@ -41,7 +42,7 @@ returns-in-Err-clause-told g c = λ used apart whole first.
     (λ behind. c.deny_line.ensures.told around ports.sent behind (asked c.args.line.now) (ap (checked texts.scripts) is))
 
 pub returns-in-Ok-clause-short : goal.returns-in-Ok-clause-short
-returns-in-Ok-clause-short g c = λ used whole own noted.
+returns-in-Ok-clause-short g c = λ used step whole own noted.
     let session = c.args.session.now in
     let ports = g.L.Lines.state c.args.lines.now in
     let ports' = g.L.Lines.state c.obey.new.lines in
@@ -49,10 +50,10 @@ returns-in-Ok-clause-short g c = λ used whole own noted.
     subst (λ (a : Asked). IsShort a session.command c.obey.result (live_in session (beyond (g.F.Files.state c.args.files.now).files ports whole))
     (live_in c.obey.new.session (beyond (g.F.Files.state c.obey.new.files).files ports' whole)) own (output (g.S.Sink.written c.args.out.now) ports.sent)
     (output (g.S.Sink.written c.obey.new.out) ports'.sent))
-    (sym is) (c.obey.ensures.short (subst (λ (a : Asked). TextTold g.F.Files.tells g.L.Lines.tells session.machine c.args.texts.now.scripts a) is used) whole own noted)
+    (sym is) (c.obey.ensures.short (subst (λ (a : Asked). TextTold g.F.Files.tells g.L.Lines.tells session.machine c.args.texts.now.scripts a) is used) step whole own noted)
 
 pub returns-in-Err-clause-short : goal.returns-in-Err-clause-short
-returns-in-Err-clause-short g c = λ used whole own is.
+returns-in-Err-clause-short g c = λ used step whole own is.
     let session = c.args.session.now in
     let ports = g.L.Lines.state c.args.lines.now in
     let live = live_in session (beyond (g.F.Files.state c.args.files.now).files ports whole) in
@@ -89,3 +90,13 @@ returns-in-Err-clause-asked g c = no-exit (asked c.args.line.now) c.deny_line.re
 
 pub returns-in-Err-clause-scripts : goal.returns-in-Err-clause-scripts
 returns-in-Err-clause-scripts g c = opens-failed _ c.args.texts.now.scripts c.deny_line.new.texts.scripts c.deny_line.result c.deny_line.ensures.scripts
+
+-- ---- the disk's file
+
+pub returns-in-Ok-clause-step : goal.returns-in-Ok-clause-step
+returns-in-Ok-clause-step g c = λ used apart.
+    let is = asked-as c.args.line.now (Ok c.read_command.new.into) c.in-Ok.ensures.exact in
+    c.obey.ensures.step (subst (λ (a : Asked). TextTold g.F.Files.tells g.L.Lines.tells c.args.session.now.machine c.args.texts.now.scripts a) is used) apart
+
+pub returns-in-Err-clause-step : goal.returns-in-Err-clause-step
+returns-in-Err-clause-step g c = λ used apart. stays-same c.args.session.now (g.F.Files.state c.args.files.now).files

@@ -3,10 +3,12 @@ use Rattle.command_session.specs.declared.next.Next.{Next}
 use Rattle.command_session.specs.Doing.{Does}
 use Rattle.nova_machine.specs.Comes.{output}
 use Rattle.session_texts.specs.Scripts.{Script, label_in, jumped_to}
-use Rattle.session_texts.specs.Actions.{Texts, texts_of, coming}
+use Rattle.session_texts.specs.Actions.{Texts, texts_of, coming, text_of_stop, overflow_text}
 use Rattle.session_texts.proofs.OpenLemmas.{stack-as, stack-jumped}
 use Rattle.scp_script.specs.declared.progress.Progress.TheVariants.{GoesOn}
 use Rattle.scp_script.proofs.SpendingLemmas.{no-exit, opens-none, opens-one, opens-jumped, opens-failed, opens-since}
+use Rattle.command_session.proofs.GrowLemmas.{grows-same}
+use Rattle.scp_script.proofs.GrowLemmas.{complained-grows, denied-grows}
 use Rattle.scp_script.proofs.TextLemmas.{refused_texts, ran-followed, label-denied}
 use Rattle.scp_script.proofs.answers.follow.Goals as goal
 
@@ -52,3 +54,27 @@ returns-then-not-is_full-clause-scripts g c = opens-one c.begin.result c.args.te
 
 pub returns-in-Ok-clause-scripts : goal.returns-in-Ok-clause-scripts
 returns-in-Ok-clause-scripts g c = opens-jumped _ c.args.texts.now.scripts c.go_to.new.self GoesOn c.in-Ok.ensures.jumps
+
+-- ---- the console
+
+pub returns-in-Ran-clause-grows : goal.returns-in-Ran-clause-grows
+returns-in-Ran-clause-grows g c =
+    complained-grows g.S.Sink.tells (g.S.Sink.written c.args.out.now) (overflow_text (text_of_stop c.in-Ran.stop c.args.watch.now) c.args.texts.now.actions) c.act_on.result
+    (g.S.Sink.written c.act_on.new.out) c.act_on.ensures.told
+
+pub returns-in-Goto-clause-grows : goal.returns-in-Goto-clause-grows
+returns-in-Goto-clause-grows g c =
+    denied-grows c.in-Err.fault g.S.Sink.tells c.refuse.result (g.S.Sink.written c.args.out.now) (g.S.Sink.written c.refuse.new.out) (g.S.Sink.fault_count c.args.out.now)
+    (g.S.Sink.fault_count c.refuse.new.out) c.refuse.ensures.told
+
+pub returns-in-Go-clause-grows : goal.returns-in-Go-clause-grows
+returns-in-Go-clause-grows g c = grows-same g.S.Sink.tells (g.S.Sink.written c.args.out.now) (g.S.Sink.written c.args.out.now) refl
+
+pub returns-in-Ok-clause-grows : goal.returns-in-Ok-clause-grows
+returns-in-Ok-clause-grows g c = grows-same g.S.Sink.tells (g.S.Sink.written c.args.out.now) (g.S.Sink.written c.args.out.now) refl
+
+pub returns-then-not-is_full-clause-grows : goal.returns-then-not-is_full-clause-grows
+returns-then-not-is_full-clause-grows g c = grows-same g.S.Sink.tells (g.S.Sink.written c.args.out.now) (g.S.Sink.written c.args.out.now) refl
+
+pub returns-else-not-is_full-clause-grows : goal.returns-else-not-is_full-clause-grows
+returns-else-not-is_full-clause-grows g c = grows-same g.S.Sink.tells (g.S.Sink.written c.args.out.now) (g.S.Sink.written c.args.out.now) refl

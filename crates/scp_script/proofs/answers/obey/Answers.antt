@@ -4,7 +4,7 @@ use Rattle.nova_machine.specs.Comes.{output}
 use Rattle.nova_machine.specs.LineChanges.{ports_of}
 use Rattle.command_session.specs.Live.{Live, CommandState, live_in, beyond, standing}
 use Rattle.scp_commands.specs.Effect.{effect}
-use Rattle.command_session.specs.Nature.{nature}
+use Rattle.command_session.specs.Nature.{nature, IsUntold}
 use Rattle.command_session.specs.declared.fault.CommandFault.{CommandFault}
 use Rattle.command_session.specs.declared.fault.CommandFault.TheVariants as fault
 use Rattle.command_session.specs.Remains.{Remains}
@@ -19,18 +19,17 @@ use Rattle.scp_script.proofs.UsedLemmas.{as-command, command-told, still-lines}
 use Rattle.scp_script.proofs.UndoneLemmas.{says, short-notes, refused-short}
 use Rattle.scp_script.proofs.PortLemmas.{IsUnasked, still-seen, live-still}
 use Rattle.scp_script.proofs.NoteLemmas.{never-short}
+use Rattle.scp_script.proofs.GrowLemmas.{denied-grows, stays-same, steps-if}
 use Rattle.scp_script.proofs.NextLemmas.{IsPlain, room-next, exit-next, untold-next, untold-plain}
 use Rattle.scp_script.proofs.SpendingLemmas.{no-exit, opens-failed}
-use Rattle.command_session.specs.Doing.{is_restore, opens_of, told_by}
-use Rattle.command_session.specs.Nature.{Telling}
-use Rattle.command_session.specs.Nature.Telling.{Nothing}
+use Rattle.command_session.specs.Doing.{is_restore, opens_of}
+use Rattle.command_session.proofs.GrowLemmas.{grows-same, grows-both}
 use Rattle.host_lines.specs.Told.{record_in}
-use Rattle.nova_machine.proofs.LineSteps.{first-same}
 use Rattle.scp_script.proofs.KeptLemmas.{kept-none, kept-by, none-missing, plain-refused}
 use Rattle.scp_script.proofs.answers.obey.Goals as goal
 
 pub returns-then-is_too_deep-clause-told : goal.returns-then-is_too_deep-clause-told
-returns-then-is_too_deep-clause-told g c = λ used apart whole first.
+returns-then-is_too_deep-clause-told g c = λ used apart step whole first.
     let session = c.args.session.now in
     let ports = g.L.Lines.state c.args.lines.now in
     let around = beyond (g.F.Files.state c.args.files.now).files ports whole in
@@ -39,7 +38,7 @@ returns-then-is_too_deep-clause-told g c = λ used apart whole first.
     (λ behind. c.deny_line.ensures.told around ports.sent behind (Ok c.args.command.now) (c.is_too_deep.ensures.deep c.if-is_too_deep.true))
 
 pub returns-in_default-clause-told : goal.returns-in_default-clause-told
-returns-in_default-clause-told g c = λ used apart whole first.
+returns-in_default-clause-told g c = λ used apart step whole first.
     let session = c.args.session.now in
     let ports = g.L.Lines.state c.args.lines.now in
     let before = output (g.S.Sink.written c.args.out.now) ports.sent in
@@ -47,7 +46,7 @@ returns-in_default-clause-told g c = λ used apart whole first.
     (coming c.args.texts.now) g.S.Sink.tells before before (notes_said session.notes) (λ behind. tt)
 
 pub returns-clause-told : goal.returns-clause-told
-returns-clause-told g c = λ used apart whole first.
+returns-clause-told g c = λ used apart step whole first.
     let session = c.args.session.now in
     let ports = g.L.Lines.state c.args.lines.now in
     let ports' = g.L.Lines.state c.execute.new.lines in
@@ -59,13 +58,13 @@ returns-clause-told g c = λ used apart whole first.
     let mid = output (g.S.Sink.written c.execute.new.out) ports'.sent in
     answers-of session.limit live texts c.args.command.now session.command (Ok c.in-Ok-execute.next) c.follow.result new (coming c.follow.new.texts)
     tells before mid (output (g.S.Sink.written c.follow.new.out) ports'.sent) (notes_said session.notes) (notes_said c.execute.new.session.notes) (c.is_too_deep.ensures.fits c.if-is_too_deep.false)
-    (c.in-Ok-execute.ensures.told (command-told g.F.Files.tells g.L.Lines.tells session.machine ports c.args.texts.now.scripts c.args.command.now (c.is_too_deep.ensures.fits c.if-is_too_deep.false) used apart) whole first)
+    (c.in-Ok-execute.ensures.told (command-told g.F.Files.tells g.L.Lines.tells session.machine ports c.args.texts.now.scripts c.args.command.now (c.is_too_deep.ensures.fits c.if-is_too_deep.false) used apart) step whole first)
     (λ own used does. c.follow.ensures.told ports'.sent (effect session.limit own live c.args.command.now) (standing used new) before (sym (ap (λ (x : CommandState). x.watch) c.session.view_is))
     (room-next texts.scripts c.args.command.now c.in-Ok-execute.next (c.is_too_deep.ensures.room c.if-is_too_deep.false) (c.in-Ok-execute.ensures.answers (λ short. absurd (cc short))).1
     (untold-next session.limit own live c.args.command.now c.in-Ok-execute.next does.0)) does)
 
 pub returns-in-Err-clause-told : goal.returns-in-Err-clause-told
-returns-in-Err-clause-told g c = λ used apart whole first.
+returns-in-Err-clause-told g c = λ used apart step whole first.
     let session = c.args.session.now in
     let ports = g.L.Lines.state c.args.lines.now in
     let ports' = g.L.Lines.state c.execute.new.lines in
@@ -78,12 +77,12 @@ returns-in-Err-clause-told g c = λ used apart whole first.
     answers-of session.limit live texts c.args.command.now session.command (Err c.in-Err.fault) c.refuse.result
     (live_in c.execute.new.session (beyond (g.F.Files.state c.execute.new.files).files ports' whole)) (coming c.refuse.new.texts)
     tells before mid after (notes_said session.notes) (notes_said c.execute.new.session.notes) (c.is_too_deep.ensures.fits c.if-is_too_deep.false)
-    (c.in-Err.ensures.told (command-told g.F.Files.tells g.L.Lines.tells session.machine ports c.args.texts.now.scripts c.args.command.now (c.is_too_deep.ensures.fits c.if-is_too_deep.false) used apart) whole first)
+    (c.in-Err.ensures.told (command-told g.F.Files.tells g.L.Lines.tells session.machine ports c.args.texts.now.scripts c.args.command.now (c.is_too_deep.ensures.fits c.if-is_too_deep.false) used apart) step whole first)
     (λ own used does. denied texts (Ok c.args.command.now) (effect session.limit own live c.args.command.now) c.in-Err.fault c.refuse.result (coming c.refuse.new.texts) _ tells before mid after
     (g.S.Sink.fault_count c.execute.new.out) (g.S.Sink.fault_count c.refuse.new.out) c.refuse.ensures.texts refl does c.refuse.ensures.told)
 
 pub returns-then-is_too_deep-clause-short : goal.returns-then-is_too_deep-clause-short
-returns-then-is_too_deep-clause-short g c = λ used whole own is.
+returns-then-is_too_deep-clause-short g c = λ used step whole own is.
     let session = c.args.session.now in
     let ports = g.L.Lines.state c.args.lines.now in
     let live = live_in session (beyond (g.F.Files.state c.args.files.now).files ports whole) in
@@ -91,7 +90,7 @@ returns-then-is_too_deep-clause-short g c = λ used whole own is.
     c.deny_line.ensures.memory
 
 pub returns-in_default-clause-short : goal.returns-in_default-clause-short
-returns-in_default-clause-short g c = λ used whole own is.
+returns-in_default-clause-short g c = λ used step whole own is.
     let session = c.args.session.now in
     let live = live_in session (beyond (g.F.Files.state c.args.files.now).files (g.L.Lines.state c.args.lines.now) whole) in
     let n = nature c.args.command.now in (
@@ -102,7 +101,7 @@ returns-in_default-clause-short g c = λ used whole own is.
     )
 
 pub returns-clause-short : goal.returns-clause-short
-returns-clause-short g c = λ used whole own is.
+returns-clause-short g c = λ used step whole own is.
     let session = c.args.session.now in
     let ports = g.L.Lines.state c.args.lines.now in
     let ports' = g.L.Lines.state c.execute.new.lines in
@@ -112,7 +111,7 @@ returns-clause-short g c = λ used whole own is.
 
 -- where memory ran out, no more is seen of the lines than before
 pub returns-in-Err-clause-short : goal.returns-in-Err-clause-short
-returns-in-Err-clause-short g c = λ used whole own is.
+returns-in-Err-clause-short g c = λ used step whole own is.
     let session = c.args.session.now in
     let new = c.execute.new.session in
     let r = c.args.command.now in
@@ -131,7 +130,7 @@ returns-in-Err-clause-short g c = λ used whole own is.
     (output (g.S.Sink.written c.refuse.new.out) ports'.sent) (g.S.Sink.fault_count c.execute.new.out) (g.S.Sink.fault_count c.refuse.new.out)
     (λ short. (
       subst (λ (x : Live). Remains (nature r).flushes (live_in session (beyond files ports whole)) x) (live-still new files' ports ports' whole (same short))
-          ((undone short).live (says g.F.Files.tells r session.machine.slots known.0) ports whole),
+          ((undone short).live (says g.F.Files.tells r session.machine.slots known.0) (steps-if (nature r).flushes session.machine files step) ports whole),
       short-notes (nature r).reads_whole session.command session.machine.time session.notes new.notes own (undone short).notes is,
       (λ i. output ((undone short).written i) ((same short).sent i)),
     ))
@@ -184,8 +183,8 @@ returns-in-Err-clause-keeps g c =
     let whole = record_in ports'.told in
     let live = live_in session (beyond (g.F.Files.state c.args.files.now).files ports whole) in
     let new = live_in c.execute.new.session (beyond (g.F.Files.state c.execute.new.files).files ports' whole) in
-    let plain : (nature r).telling ≡ Nothing → IsPlain (Err why) = λ untold.
-    let did = c.in-Err.ensures.told (subst (λ (t : Telling). told_by t g.F.Files.tells session.machine.slots g.L.Lines.tells ports session.machine.lines) (sym untold) tt) whole (first-same whole) in
+    let plain : IsUntold r → IsPlain (Err why) = λ untold.
+    let did = c.in-Err.ensures.untold untold whole in
     let own = did.own in
     plain-refused (effect session.limit (own ++ []) live r) why (standing (length own) new) g.S.Sink.tells (output (g.S.Sink.written c.args.out.now) ports.sent)
     (output (g.S.Sink.written c.execute.new.out) ports'.sent) (did.does [] tt) (untold-plain session.limit (own ++ []) live r untold) in
@@ -217,7 +216,38 @@ follow-requires-clause-asked g c =
     let whole = record_in (g.L.Lines.state c.execute.new.lines).told in
     exit-next r next (c.in-Ok-execute.ensures.answers (λ short. absurd (cc short))).1
     (λ untold.
-    let did = c.in-Ok-execute.ensures.told (subst (λ (t : Telling). told_by t g.F.Files.tells session.machine.slots g.L.Lines.tells ports session.machine.lines) (sym untold) tt) whole (first-same whole) in
+    let did = c.in-Ok-execute.ensures.untold untold whole in
     let own = did.own in
     let does = did.does [] tt in
     untold-next session.limit (own ++ []) (live_in session (beyond (g.F.Files.state c.args.files.now).files ports whole)) r next does.0 untold)
+
+-- ---- the disk's file, and the console
+
+pub returns-then-is_too_deep-clause-step : goal.returns-then-is_too_deep-clause-step
+returns-then-is_too_deep-clause-step g c = λ used apart. stays-same c.args.session.now (g.F.Files.state c.args.files.now).files
+
+pub returns-in_default-clause-step : goal.returns-in_default-clause-step
+returns-in_default-clause-step g c = λ used apart. stays-same c.args.session.now (g.F.Files.state c.args.files.now).files
+
+pub returns-clause-step : goal.returns-clause-step
+returns-clause-step g c = λ used apart.
+    c.in-Ok-execute.ensures.step
+    (command-told g.F.Files.tells g.L.Lines.tells c.args.session.now.machine (g.L.Lines.state c.args.lines.now) c.args.texts.now.scripts c.args.command.now (c.is_too_deep.ensures.fits c.if-is_too_deep.false) used apart)
+
+pub returns-in-Err-clause-step : goal.returns-in-Err-clause-step
+returns-in-Err-clause-step g c = λ used apart.
+    c.in-Err.ensures.step
+    (command-told g.F.Files.tells g.L.Lines.tells c.args.session.now.machine (g.L.Lines.state c.args.lines.now) c.args.texts.now.scripts c.args.command.now (c.is_too_deep.ensures.fits c.if-is_too_deep.false) used apart)
+
+pub returns-in_default-clause-grows : goal.returns-in_default-clause-grows
+returns-in_default-clause-grows g c = grows-same g.S.Sink.tells (g.S.Sink.written c.args.out.now) (g.S.Sink.written c.args.out.now) refl
+
+pub returns-clause-grows : goal.returns-clause-grows
+returns-clause-grows g c =
+    grows-both g.S.Sink.tells (g.S.Sink.written c.args.out.now) (g.S.Sink.written c.execute.new.out) (g.S.Sink.written c.follow.new.out) c.in-Ok-execute.ensures.grows c.follow.ensures.grows
+
+pub returns-in-Err-clause-grows : goal.returns-in-Err-clause-grows
+returns-in-Err-clause-grows g c =
+    grows-both g.S.Sink.tells (g.S.Sink.written c.args.out.now) (g.S.Sink.written c.execute.new.out) (g.S.Sink.written c.refuse.new.out) c.in-Err.ensures.grows
+    (denied-grows c.in-Err.fault g.S.Sink.tells c.refuse.result (g.S.Sink.written c.execute.new.out) (g.S.Sink.written c.refuse.new.out) (g.S.Sink.fault_count c.execute.new.out)
+    (g.S.Sink.fault_count c.refuse.new.out) c.refuse.ensures.told)

@@ -1,10 +1,14 @@
 use Rattle.std.proofs.Common.{◌≡◌, ◌<◌, ◌-◌, ℕ, List, [], ◌∷◌, refl, ap, sym, ◌∙◌, subst, arith, drop, take, ◌++◌}
 use Rattle.file_commands.specs.Notes.{Note, notes_said}
+use Rattle.unit_files.specs.InStep.{InStep}
+use Rattle.nova_machine.specs.Machine.{attached_files}
 use Rattle.nova_machine.specs.Comes.{output}
 use Rattle.telnet_lines.specs.Many.{AreApart}
 use Rattle.command_session.specs.Live.{CommandState, live_in, beyond}
 use Rattle.command_session.specs.LinesLeft.{LinesLeft}
 use Rattle.command_session.specs.Asked.{asked}
+use Rattle.command_session.specs.DiskFile.{StaysWhereAlone}
+use Rattle.command_session.proofs.GrowLemmas.{grows-same}
 use Rattle.scp_script.specs.declared.progress.CommandLoop.{CommandLoop}
 use Rattle.scp_script.specs.declared.progress.Progress.TheVariants.{GoesOn, IsOver}
 use Rattle.scp_script.specs.declared.progress.Finish.TheVariants.{Commands}
@@ -17,13 +21,14 @@ use Rattle.scp_script.proofs.LineLemmas.{text-unpaid}
 use Rattle.scp_script.proofs.NoteLemmas.{has-first, action-text, action-there, action-stepped, over-alone, left-at, same-read, answer-kept}
 use Rattle.scp_script.proofs.KeptLemmas.{kept-none, kept-paid}
 use Rattle.scp_script.proofs.PortLemmas.{left-kept}
+use Rattle.scp_script.proofs.GrowLemmas.{stays-kept}
 use Rattle.session_texts.specs.Scripts.{still_open}
 use Rattle.session_texts.proofs.OpenLemmas.{stack-as}
 use Rattle.scp_script.proofs.SpendingLemmas.{opens-none, opens-since, paid-text, action-next, unpaid-action}
 use Rattle.scp_script.proofs.command_loop.action.Goals as goal
 
 pub returns-then-not-pay-clause-told : goal.returns-then-not-pay-clause-told
-returns-then-not-pay-clause-told g c = λ enough apart sink whole begins input next.
+returns-then-not-pay-clause-told g c = λ enough apart sink step whole begins input next.
     let session = c.args.session.now in
     let paid = c.pay.new.session in
     let now_state = record session { command = paid.command } in
@@ -43,7 +48,7 @@ returns-then-not-pay-clause-told g c = λ enough apart sink whole begins input n
     (same-read lines.reader.open_ now.reader.open_ input input reader refl) refl))
 
 pub returns-in-Some-clause-told : goal.returns-in-Some-clause-told
-returns-in-Some-clause-told g c = λ enough apart sink whole begins input next.
+returns-in-Some-clause-told g c = λ enough apart sink step whole begins input next.
     let session = c.args.session.now in
     let paid = c.pay.new.session in
     let ports = g.L.Lines.state c.args.ports.now in
@@ -72,14 +77,15 @@ returns-in-Some-clause-told g c = λ enough apart sink whole begins input next.
     ap (λ (a : List (List ℕ)). texts_of a now.texts.scripts) (c.take.ensures.rest ∙ ap (drop 1) there) ∙ ap (λ (x : CommandLoop). texts_of first.others x.texts.scripts) c.pay.ensures.lines in
     let spent : done.command ≡ spent_more session.command 1 = omega (arith, c.pay.ensures.command, c.answer.ensures.command, paid_for.0, budget) in
     let less : session.command < done.command = omega (arith, spent, enough, paid_for.0) in
+    let stepped = subst (λ (x : CommandState). InStep (attached_files x.machine) (g.F.Files.state c.args.files.now).files) (sym is) step in
     let told = subst (λ (x : CommandState). Answers x.limit (live_in x named) (texts_of first.others lines.texts.scripts) what done.command result live (coming c.answer.new.texts) tells before after (notes_said x.notes) (notes_said done.notes)) is
     (subst (λ (t : Texts). Answers paid.limit (live_in paid named) t what done.command result live (coming c.answer.new.texts) tells before after (notes_said paid.notes) (notes_said done.notes)) left
     (subst (λ n. Answers paid.limit (live_in paid named) (texts_of c.take.new.self now.texts.scripts) what n result live (coming c.answer.new.texts) tells before after (notes_said paid.notes) (notes_said done.notes)) (sym c.answer.ensures.command)
-    (c.answer.ensures.told used (λ tells. subst (λ (x : CommandState). AreApart ports x.machine.lines) (sym is) (apart tells)) whole begins))) in
+    (c.answer.ensures.told used (λ tells. subst (λ (x : CommandState). AreApart ports x.machine.lines) (sym is) (apart tells)) stepped whole begins))) in
     let short = λ (own : List Note) (e : notes_said done.notes ≡ notes_said session.notes ++ own).
     subst (λ (x : CommandState). IsShort what done.command result (live_in x named) live own before after) is
     (subst (λ n. IsShort what n result (live_in paid named) live own before after) (sym c.answer.ensures.command)
-    (c.answer.ensures.short used whole own (e ∙ ap (λ (x : CommandState). notes_said x.notes ++ own) (sym is)))) in
+    (c.answer.ensures.short used stepped whole own (e ∙ ap (λ (x : CommandState). notes_said x.notes ++ own) (sym is)))) in
     let limit = c.answer.ensures.limit ∙ ap (λ (x : CommandState). x.limit) is in
     action-stepped (session_of session named lines input []) (session_of done (beyond (g.F.Files.state c.answer.new.files).files ports' whole) last input []) first.action first.others what result tells before after
     (notes_said session.notes) (notes_said done.notes) sink first.is paid_for.0 (ap asked (sym text))
@@ -99,7 +105,7 @@ returns-in-Some-clause-kept g c =
 
 -- an action is there
 pub returns-in-None-clause-told : goal.returns-in-None-clause-told
-returns-in-None-clause-told g c = λ enough apart sink whole begins input next.
+returns-in-None-clause-told g c = λ enough apart sink step whole begins input next.
     let first = has-first c.args.lines.now.texts.actions c.requires.some in
     absurd (action-there c.pay.new.lines.texts.actions first.action first.others (ap (λ (x : CommandLoop). x.texts.actions) c.pay.ensures.lines ∙ first.is) (sym c.in-None.is ∙ c.take.ensures.count))
 
@@ -189,3 +195,39 @@ returns-in-Some-clause-scripts g c =
 pub returns-in-None-clause-scripts : goal.returns-in-None-clause-scripts
 returns-in-None-clause-scripts g c =
     opens-none c.args.lines.now.texts.scripts c.pay.new.lines.texts.scripts GoesOn (ap (λ (x : CommandLoop). x.texts.scripts) c.pay.ensures.lines)
+
+-- ---- the disk's file, and the console
+
+pub returns-then-not-pay-clause-step : goal.returns-then-not-pay-clause-step
+returns-then-not-pay-clause-step g c = λ apart whole input next.
+    stays-kept c.args.session.now c.pay.new.session (g.F.Files.state c.args.files.now).files (ap (λ (x : CommandState). x.machine) c.pay.ensures.rest)
+
+pub returns-in-Some-clause-step : goal.returns-in-Some-clause-step
+returns-in-Some-clause-step g c = λ apart whole input next.
+    let session = c.args.session.now in
+    let paid = c.pay.new.session in
+    let ports = g.L.Lines.state c.args.ports.now in
+    let named = beyond (g.F.Files.state c.args.files.now).files ports whole in
+    let lines = c.args.lines.now in
+    let now = c.pay.new.lines in
+    let paid_for = c.pay.ensures.paid c.if-not-pay.false in
+    let is = c.pay.ensures.rest in
+    let first = has-first lines.texts.actions c.requires.some in
+    let there : now.texts.actions ≡ first.action ∷ first.others = ap (λ (x : CommandLoop). x.texts.actions) c.pay.ensures.lines ∙ first.is in
+    let text : take c.in-Some.length c.take.new.out ≡ first.action =
+    action-text now.texts.actions first.action first.others _ c.take.new.out c.in-Some.length there (sym c.in-Some.is ∙ c.take.ensures.count) c.take.ensures.text in
+    subst (λ (x : CommandState). StaysWhereAlone x c.answer.new.session (g.F.Files.state c.args.files.now).files (g.F.Files.state c.answer.new.files).files) is
+    (c.answer.ensures.step
+    (action-used g.F.Files.tells g.L.Lines.tells session paid named lines now input first.action (take c.in-Some.length c.take.new.out) first.others (ap (λ (x : CommandState). x.machine) is)
+    (ap (λ (x : CommandLoop). x.texts.scripts) c.pay.ensures.lines) first.is paid_for.0 text next)
+    (λ tells. subst (λ (x : CommandState). AreApart ports x.machine.lines) (sym is) (apart tells)))
+
+pub returns-in-None-clause-step : goal.returns-in-None-clause-step
+returns-in-None-clause-step g c = λ apart whole input next.
+    stays-kept c.args.session.now c.pay.new.session (g.F.Files.state c.args.files.now).files (ap (λ (x : CommandState). x.machine) c.pay.ensures.rest)
+
+pub returns-then-not-pay-clause-grows : goal.returns-then-not-pay-clause-grows
+returns-then-not-pay-clause-grows g c = grows-same g.S.Sink.tells (g.S.Sink.written c.args.out.now) (g.S.Sink.written c.args.out.now) refl
+
+pub returns-in-None-clause-grows : goal.returns-in-None-clause-grows
+returns-in-None-clause-grows g c = grows-same g.S.Sink.tells (g.S.Sink.written c.args.out.now) (g.S.Sink.written c.args.out.now) refl

@@ -4,6 +4,8 @@ use Rattle.file_commands.specs.Notes.{Note, notes_said}
 use Rattle.scp_parser.specs.declared.fault.ParseFault.TheVariants.{TooLong}
 use Rattle.command_session.specs.declared.fault.CommandFault.TheVariants.{Parse}
 use Rattle.command_session.specs.declared.next.Next.TheVariants.{Go}
+use Rattle.unit_files.specs.InStep.{InStep}
+use Rattle.nova_machine.specs.Machine.{attached_files}
 use Rattle.nova_machine.specs.Comes.{output}
 use Rattle.telnet_lines.specs.Many.{AreApart}
 use Rattle.command_session.specs.Live.{CommandState, live_in, beyond}
@@ -11,6 +13,9 @@ use Rattle.command_session.specs.LinesLeft.{LinesLeft}
 use Rattle.command_session.proofs.PortLemmas.{left-same}
 use Rattle.command_session.specs.Doing.{Closes}
 use Rattle.command_session.specs.Asked.{asked}
+use Rattle.command_session.specs.DiskFile.{StaysWhereAlone}
+use Rattle.command_session.proofs.StepLemmas.{stays-alone}
+use Rattle.command_session.proofs.GrowLemmas.{grows-both}
 use Rattle.command_session.proofs.AskedLemmas.{long-asked}
 use Rattle.scp_script.specs.declared.progress.Progress.TheVariants.{IsOver}
 use Rattle.scp_script.specs.declared.progress.Finish.TheVariants.{Commands, Console, Input}
@@ -23,7 +28,9 @@ use Rattle.scp_script.specs.Loop.{IsShort, Answers, opens_asked, AreKeptFor, ses
 use Rattle.scp_script.proofs.TextLemmas.{answers-none}
 use Rattle.scp_script.proofs.LineLemmas.{none-read, prompt-refused, budget-spent, input-failed}
 use Rattle.scp_script.proofs.NoteLemmas.{line-stepped, over-alone, input-closed, left-at, never-short, spent-line, answer-kept}
+use Rattle.scp_script.specs.Session.{prompt_text}
 use Rattle.scp_script.proofs.PortLemmas.{left-kept}
+use Rattle.scp_script.proofs.GrowLemmas.{grows-by, grows-part, stays-same, stays-kept}
 use Rattle.scp_script.proofs.UsedLemmas.{line-used, end-used, lines-told, still-ended}
 use Rattle.session_texts.specs.declared.texts.Texts.{Texts as HeldTexts}
 use Rattle.session_texts.proofs.OpenLemmas.{stack-as}
@@ -31,7 +38,7 @@ use Rattle.scp_script.proofs.SpendingLemmas.{opens-failed, opens-since, paid-tex
 use Rattle.scp_script.proofs.command_loop.input_line.Goals as goal
 
 pub returns-in-Err-clause-told : goal.returns-in-Err-clause-told
-returns-in-Err-clause-told g c = λ enough source apart sink whole begins next.
+returns-in-Err-clause-told g c = λ enough source apart sink step whole begins next.
     let session = c.args.session.now in
     let input = g.C.Source.left c.args.input.now in
     let ports = g.L.Lines.state c.args.ports.now in
@@ -42,7 +49,7 @@ returns-in-Err-clause-told g c = λ enough source apart sink whole begins next.
     (prompt-refused old old before after (λ i. texts_of (c.requires.actions i) (c.requires.scripts i)) c.requires.reads refl (none-read c.args.lines.now.reader.open_ input) (c.in-Err.ensures.told sink) refl)
 
 pub returns-in-Line-clause-told : goal.returns-in-Line-clause-told
-returns-in-Line-clause-told g c = λ enough source apart sink whole begins next.
+returns-in-Line-clause-told g c = λ enough source apart sink step whole begins next.
     let session = c.args.session.now in
     let paid = c.read_paid.new.session in
     let ports = g.L.Lines.state c.args.ports.now in
@@ -68,14 +75,15 @@ returns-in-Line-clause-told g c = λ enough source apart sink whole begins next.
     c.requires.reads reads.0 (ap (λ (t : Texts). t.scripts) none) c.line.ensures next in
     let spent = spent-line session.command paid.command lines.budget now.budget lines.reader.open_ input now.reader.line reads.0 reads.1 c.read_paid.ensures.command in
     let less : session.command < done.command = omega (arith, c.read_paid.ensures.command, c.in-Line.ensures.pays, c.answer.ensures.command, enough) in
+    let stepped = subst (λ (x : CommandState). InStep (attached_files x.machine) (g.F.Files.state c.args.files.now).files) (sym is) step in
     let told = subst (λ (x : CommandState). Answers x.limit (live_in x named) (texts_of [] []) what done.command result live (coming c.answer.new.texts) tells mid after (notes_said x.notes) (notes_said done.notes)) is
     (subst (λ (t : Texts). Answers paid.limit (live_in paid named) t what done.command result live (coming c.answer.new.texts) tells mid after (notes_said paid.notes) (notes_said done.notes)) none
     (subst (λ n. Answers paid.limit (live_in paid named) (coming now.texts) what n result live (coming c.answer.new.texts) tells mid after (notes_said paid.notes) (notes_said done.notes)) (sym c.answer.ensures.command)
-    (c.answer.ensures.told used (λ tells. subst (λ (x : CommandState). AreApart ports x.machine.lines) (sym is) (apart tells)) whole begins))) in
+    (c.answer.ensures.told used (λ tells. subst (λ (x : CommandState). AreApart ports x.machine.lines) (sym is) (apart tells)) stepped whole begins))) in
     let short = λ (own : List Note) (e : notes_said done.notes ≡ notes_said session.notes ++ own).
     subst (λ (x : CommandState). IsShort what done.command result (live_in x named) live own mid after) is
     (subst (λ n. IsShort what n result (live_in paid named) live own mid after) (sym c.answer.ensures.command)
-    (c.answer.ensures.short used whole own (e ∙ ap (λ (x : CommandState). notes_said x.notes ++ own) (sym is)))) in
+    (c.answer.ensures.short used stepped whole own (e ∙ ap (λ (x : CommandState). notes_said x.notes ++ own) (sym is)))) in
     let limit = c.answer.ensures.limit ∙ ap (λ (x : CommandState). x.limit) is in
     line-stepped (session_of session named lines input []) (session_of done (beyond (g.F.Files.state c.answer.new.files).files ports' whole) last left []) now.reader.line what result tells before mid after
     (notes_said session.notes) (notes_said done.notes) sink (λ i. texts_of (c.requires.actions i) (c.requires.scripts i)) c.requires.reads reads.0 (ap asked (sym c.line.ensures))
@@ -87,7 +95,7 @@ returns-in-Line-clause-around g c = λ base around.
     c.answer.ensures.around base (subst (λ (x : CommandState). Around x.machine.slots base (g.F.Files.state c.args.files.now).opened) (sym c.read_paid.ensures.rest) around)
 
 pub returns-in-TooLong-clause-told : goal.returns-in-TooLong-clause-told
-returns-in-TooLong-clause-told g c = λ enough source apart sink whole begins next.
+returns-in-TooLong-clause-told g c = λ enough source apart sink step whole begins next.
     let session = c.args.session.now in
     let paid = c.read_paid.new.session in
     let ports = g.L.Lines.state c.args.ports.now in
@@ -123,7 +131,7 @@ returns-in-TooLong-clause-told g c = λ enough source apart sink whole begins ne
     (c.in-Ok.ensures.told sink) refl told short)
 
 pub returns-in-Ok-detach_all-clause-told : goal.returns-in-Ok-detach_all-clause-told
-returns-in-Ok-detach_all-clause-told g c = λ enough source apart sink whole begins next.
+returns-in-Ok-detach_all-clause-told g c = λ enough source apart sink step whole begins next.
     let session = c.args.session.now in
     let paid = c.read_paid.new.session in
     let ports = g.L.Lines.state c.args.ports.now in
@@ -141,13 +149,14 @@ returns-in-Ok-detach_all-clause-told g c = λ enough source apart sink whole beg
     let same : paid.command ≡ session.command = omega (arith, c.read_paid.ensures.command, reads.1) in
     let used = end-used g.F.Files.tells g.L.Lines.tells session paid named lines input (ap (λ (x : CommandState). x.machine) is) (λ i. texts_of (c.requires.actions i) (c.requires.scripts i)) c.requires.reads reads.0 next in
     let now_live = live_in done (beyond (g.F.Files.state c.detach_all.new.files).files ports' whole) in
-    let closes = subst (λ n. Closes n (live_in session named) now_live None (notes_said session.notes) (notes_said done.notes)) same
-    (subst (λ (x : CommandState). Closes x.command (live_in x named) now_live None (notes_said x.notes) (notes_said done.notes)) is (c.in-Ok-detach_all.ensures.closes (lines-told g.L.Lines.tells ports paid.machine.lines used (λ tells. subst (λ (x : CommandState). AreApart ports x.machine.lines) (sym is) (apart tells))) whole)) in
+    let kept_step = InStep (attached_files session.machine) (g.F.Files.state c.args.files.now).files in
+    let closes = subst (λ n. Closes kept_step n (live_in session named) now_live None (notes_said session.notes) (notes_said done.notes)) same
+    (subst (λ (x : CommandState). Closes (InStep (attached_files x.machine) (g.F.Files.state c.args.files.now).files) x.command (live_in x named) now_live None (notes_said x.notes) (notes_said done.notes)) is (c.in-Ok-detach_all.ensures.closes (lines-told g.L.Lines.tells ports paid.machine.lines used (λ tells. subst (λ (x : CommandState). AreApart ports x.machine.lines) (sym is) (apart tells))) whole)) in
     input-closed (session_of session named lines input []) (session_of done (beyond (g.F.Files.state c.detach_all.new.files).files ports' whole) now left []) None before after
-    (notes_said session.notes) (notes_said done.notes) (λ i. texts_of (c.requires.actions i) (c.requires.scripts i)) c.requires.reads reads.0 closes reads.2 (c.in-Ok.ensures.told sink) c.detach_all.ensures.sent
+    (notes_said session.notes) (notes_said done.notes) (λ i. texts_of (c.requires.actions i) (c.requires.scripts i)) c.requires.reads reads.0 kept_step step closes reads.2 (c.in-Ok.ensures.told sink) c.detach_all.ensures.sent
 
 pub returns-in-Err-detach_all-clause-told : goal.returns-in-Err-detach_all-clause-told
-returns-in-Err-detach_all-clause-told g c = λ enough source apart sink whole begins next.
+returns-in-Err-detach_all-clause-told g c = λ enough source apart sink step whole begins next.
     let session = c.args.session.now in
     let paid = c.read_paid.new.session in
     let ports = g.L.Lines.state c.args.ports.now in
@@ -165,13 +174,14 @@ returns-in-Err-detach_all-clause-told g c = λ enough source apart sink whole be
     let same : paid.command ≡ session.command = omega (arith, c.read_paid.ensures.command, reads.1) in
     let used = end-used g.F.Files.tells g.L.Lines.tells session paid named lines input (ap (λ (x : CommandState). x.machine) is) (λ i. texts_of (c.requires.actions i) (c.requires.scripts i)) c.requires.reads reads.0 next in
     let now_live = live_in done (beyond (g.F.Files.state c.detach_all.new.files).files ports' whole) in
-    let closes = subst (λ n. Closes n (live_in session named) now_live (Some c.in-Err-detach_all._fault.unit) (notes_said session.notes) (notes_said done.notes)) same
-    (subst (λ (x : CommandState). Closes x.command (live_in x named) now_live (Some c.in-Err-detach_all._fault.unit) (notes_said x.notes) (notes_said done.notes)) is (c.in-Err-detach_all.ensures.closes (lines-told g.L.Lines.tells ports paid.machine.lines used (λ tells. subst (λ (x : CommandState). AreApart ports x.machine.lines) (sym is) (apart tells))) whole)) in
+    let kept_step = InStep (attached_files session.machine) (g.F.Files.state c.args.files.now).files in
+    let closes = subst (λ n. Closes kept_step n (live_in session named) now_live (Some c.in-Err-detach_all._fault.unit) (notes_said session.notes) (notes_said done.notes)) same
+    (subst (λ (x : CommandState). Closes (InStep (attached_files x.machine) (g.F.Files.state c.args.files.now).files) x.command (live_in x named) now_live (Some c.in-Err-detach_all._fault.unit) (notes_said x.notes) (notes_said done.notes)) is (c.in-Err-detach_all.ensures.closes (lines-told g.L.Lines.tells ports paid.machine.lines used (λ tells. subst (λ (x : CommandState). AreApart ports x.machine.lines) (sym is) (apart tells))) whole)) in
     input-closed (session_of session named lines input []) (session_of done (beyond (g.F.Files.state c.detach_all.new.files).files ports' whole) now left []) (Some c.in-Err-detach_all._fault.unit) before after
-    (notes_said session.notes) (notes_said done.notes) (λ i. texts_of (c.requires.actions i) (c.requires.scripts i)) c.requires.reads reads.0 closes reads.2 (c.in-Ok.ensures.told sink) c.detach_all.ensures.sent
+    (notes_said session.notes) (notes_said done.notes) (λ i. texts_of (c.requires.actions i) (c.requires.scripts i)) c.requires.reads reads.0 kept_step step closes reads.2 (c.in-Ok.ensures.told sink) c.detach_all.ensures.sent
 
 pub returns-in-Unpaid-clause-told : goal.returns-in-Unpaid-clause-told
-returns-in-Unpaid-clause-told g c = λ enough source apart sink whole begins next.
+returns-in-Unpaid-clause-told g c = λ enough source apart sink step whole begins next.
     let session = c.args.session.now in
     let paid = c.read_paid.new.session in
     let ports = g.L.Lines.state c.args.ports.now in
@@ -192,7 +202,7 @@ returns-in-Unpaid-clause-told g c = λ enough source apart sink whole begins nex
     (budget-spent old new before after (λ i. texts_of (c.requires.actions i) (c.requires.scripts i)) c.requires.reads reads.0 refl reads.1 (c.in-Ok.ensures.told sink) refl))
 
 pub returns-in-Failed-clause-told : goal.returns-in-Failed-clause-told
-returns-in-Failed-clause-told g c = λ enough source apart sink whole begins next.
+returns-in-Failed-clause-told g c = λ enough source apart sink step whole begins next.
     let session = c.args.session.now in
     let paid = c.read_paid.new.session in
     let ports = g.L.Lines.state c.args.ports.now in
@@ -365,3 +375,105 @@ returns-in-TooLong-clause-scripts g c =
     let mid = c.read_paid.new.lines.texts.scripts in
     opens-since old mid c.deny_line.new.texts.scripts c.deny_line.result (λ first most. stack-as first most old mid (ap (λ (t : HeldTexts). t.scripts) c.read_paid.ensures.texts))
     (opens-failed _ mid c.deny_line.new.texts.scripts c.deny_line.result c.deny_line.ensures.scripts)
+
+-- ---- the disk's file
+
+pub returns-in-Err-clause-step : goal.returns-in-Err-clause-step
+returns-in-Err-clause-step g c = λ source apart whole next. stays-same c.args.session.now (g.F.Files.state c.args.files.now).files
+
+pub returns-in-TooLong-clause-step : goal.returns-in-TooLong-clause-step
+returns-in-TooLong-clause-step g c = λ source apart whole next.
+    stays-kept c.args.session.now c.read_paid.new.session (g.F.Files.state c.args.files.now).files (ap (λ (x : CommandState). x.machine) c.read_paid.ensures.rest)
+
+pub returns-in-Unpaid-clause-step : goal.returns-in-Unpaid-clause-step
+returns-in-Unpaid-clause-step g c = λ source apart whole next.
+    stays-kept c.args.session.now c.read_paid.new.session (g.F.Files.state c.args.files.now).files (ap (λ (x : CommandState). x.machine) c.read_paid.ensures.rest)
+
+pub returns-in-Failed-clause-step : goal.returns-in-Failed-clause-step
+returns-in-Failed-clause-step g c = λ source apart whole next.
+    stays-kept c.args.session.now c.read_paid.new.session (g.F.Files.state c.args.files.now).files (ap (λ (x : CommandState). x.machine) c.read_paid.ensures.rest)
+
+pub returns-in-Ok-detach_all-clause-step : goal.returns-in-Ok-detach_all-clause-step
+returns-in-Ok-detach_all-clause-step g c = λ source apart whole next.
+    let old = (g.F.Files.state c.args.files.now).files in
+    let new = (g.F.Files.state c.detach_all.new.files).files in
+    subst (λ (x : CommandState). StaysWhereAlone x c.detach_all.new.self old new) c.read_paid.ensures.rest
+    (stays-alone c.read_paid.new.session c.detach_all.new.self old new c.detach_all.ensures.step)
+
+pub returns-in-Err-detach_all-clause-step : goal.returns-in-Err-detach_all-clause-step
+returns-in-Err-detach_all-clause-step g c = λ source apart whole next.
+    let old = (g.F.Files.state c.args.files.now).files in
+    let new = (g.F.Files.state c.detach_all.new.files).files in
+    subst (λ (x : CommandState). StaysWhereAlone x c.detach_all.new.self old new) c.read_paid.ensures.rest
+    (stays-alone c.read_paid.new.session c.detach_all.new.self old new c.detach_all.ensures.step)
+
+pub returns-in-Line-clause-step : goal.returns-in-Line-clause-step
+returns-in-Line-clause-step g c = λ source apart whole next.
+    let session = c.args.session.now in
+    let paid = c.read_paid.new.session in
+    let ports = g.L.Lines.state c.args.ports.now in
+    let named = beyond (g.F.Files.state c.args.files.now).files ports whole in
+    let now = c.read_paid.new.lines in
+    let is = c.read_paid.ensures.rest in
+    let none : coming now.texts ≡ texts_of [] [] = (λ i. coming (c.read_paid.ensures.texts i)) ∙ (λ i. texts_of (c.requires.actions i) (c.requires.scripts i)) in
+    let reads = c.in-Line.ensures.reads source in
+    subst (λ (x : CommandState). StaysWhereAlone x c.answer.new.session (g.F.Files.state c.args.files.now).files (g.F.Files.state c.answer.new.files).files) is
+    (c.answer.ensures.step
+    (line-used g.F.Files.tells g.L.Lines.tells session paid named c.args.lines.now now (g.C.Source.left c.args.input.now) now.reader.line c.line.result.now (ap (λ (x : CommandState). x.machine) is)
+    (λ i. texts_of (c.requires.actions i) (c.requires.scripts i)) c.requires.reads reads.0 (ap (λ (t : Texts). t.scripts) none) c.line.ensures next)
+    (λ tells. subst (λ (x : CommandState). AreApart ports x.machine.lines) (sym is) (apart tells)))
+
+-- ---- the console, and the input
+
+pub returns-in-Err-clause-grows : goal.returns-in-Err-clause-grows
+returns-in-Err-clause-grows g c =
+    grows-part g.S.Sink.tells (g.S.Sink.written c.args.out.now) (prompt_text c.args.lines.now.prompt) (g.S.Sink.written c.ask.new.out) c.in-Err.ensures.told
+
+pub returns-in-Line-clause-grows : goal.returns-in-Line-clause-grows
+returns-in-Line-clause-grows g c =
+    let before = g.S.Sink.written c.args.out.now in
+    let mid = g.S.Sink.written c.ask.new.out in
+    grows-both g.S.Sink.tells before mid (g.S.Sink.written c.answer.new.out) (grows-by g.S.Sink.tells before (prompt_text c.args.lines.now.prompt) mid c.in-Ok.ensures.told) c.answer.ensures.grows
+
+pub returns-in-TooLong-clause-grows : goal.returns-in-TooLong-clause-grows
+returns-in-TooLong-clause-grows g c =
+    let before = g.S.Sink.written c.args.out.now in
+    let mid = g.S.Sink.written c.ask.new.out in
+    grows-both g.S.Sink.tells before mid (g.S.Sink.written c.deny_line.new.out) (grows-by g.S.Sink.tells before (prompt_text c.args.lines.now.prompt) mid c.in-Ok.ensures.told) c.deny_line.ensures.grows
+
+pub returns-in-Ok-detach_all-clause-grows : goal.returns-in-Ok-detach_all-clause-grows
+returns-in-Ok-detach_all-clause-grows g c =
+    grows-by g.S.Sink.tells (g.S.Sink.written c.args.out.now) (prompt_text c.args.lines.now.prompt) (g.S.Sink.written c.ask.new.out) c.in-Ok.ensures.told
+
+pub returns-in-Err-detach_all-clause-grows : goal.returns-in-Err-detach_all-clause-grows
+returns-in-Err-detach_all-clause-grows g c =
+    grows-by g.S.Sink.tells (g.S.Sink.written c.args.out.now) (prompt_text c.args.lines.now.prompt) (g.S.Sink.written c.ask.new.out) c.in-Ok.ensures.told
+
+pub returns-in-Unpaid-clause-grows : goal.returns-in-Unpaid-clause-grows
+returns-in-Unpaid-clause-grows g c =
+    grows-by g.S.Sink.tells (g.S.Sink.written c.args.out.now) (prompt_text c.args.lines.now.prompt) (g.S.Sink.written c.ask.new.out) c.in-Ok.ensures.told
+
+pub returns-in-Failed-clause-grows : goal.returns-in-Failed-clause-grows
+returns-in-Failed-clause-grows g c =
+    grows-by g.S.Sink.tells (g.S.Sink.written c.args.out.now) (prompt_text c.args.lines.now.prompt) (g.S.Sink.written c.ask.new.out) c.in-Ok.ensures.told
+
+pub returns-in-Err-clause-drops : goal.returns-in-Err-clause-drops
+returns-in-Err-clause-drops g c = λ source. (0, refl)
+
+pub returns-in-Line-clause-drops : goal.returns-in-Line-clause-drops
+returns-in-Line-clause-drops g c = λ source. let reads = c.in-Line.ensures.reads source in (_, reads.3.rest)
+
+pub returns-in-TooLong-clause-drops : goal.returns-in-TooLong-clause-drops
+returns-in-TooLong-clause-drops g c = λ source. let reads = c.in-TooLong.ensures.reads source in (_, reads.5.rest)
+
+pub returns-in-Ok-detach_all-clause-drops : goal.returns-in-Ok-detach_all-clause-drops
+returns-in-Ok-detach_all-clause-drops g c = λ source. let reads = c.in-End.ensures.reads source in (_, reads.2.rest)
+
+pub returns-in-Err-detach_all-clause-drops : goal.returns-in-Err-detach_all-clause-drops
+returns-in-Err-detach_all-clause-drops g c = λ source. let reads = c.in-End.ensures.reads source in (_, reads.2.rest)
+
+pub returns-in-Unpaid-clause-drops : goal.returns-in-Unpaid-clause-drops
+returns-in-Unpaid-clause-drops g c = λ source. let reads = c.in-Unpaid.ensures.reads source in (_, reads.1.rest)
+
+pub returns-in-Failed-clause-drops : goal.returns-in-Failed-clause-drops
+returns-in-Failed-clause-drops g c = λ source. let reads = c.in-Failed.ensures.reads source in (_, reads.2.rest)

@@ -1,9 +1,13 @@
 use Rattle.std.proofs.Common.{inr, ◌-◌, [], ◌∷◌, ap, sym, ◌∙◌, refl, subst, arith}
 use Rattle.file_commands.specs.Notes.{notes_said}
+use Rattle.unit_files.specs.InStep.{InStep}
+use Rattle.nova_machine.specs.Machine.{attached_files}
 use Rattle.nova_machine.specs.Comes.{output}
 use Rattle.telnet_lines.specs.Many.{AreApart}
 use Rattle.command_session.specs.Live.{CommandState, beyond}
+use Rattle.command_session.specs.DiskFile.{StaysWhereAlone}
 use Rattle.command_session.specs.LinesLeft.{LinesLeft}
+use Rattle.command_session.proofs.GrowLemmas.{grows-same}
 use Rattle.scp_script.specs.declared.progress.Progress.TheVariants.{IsOver}
 use Rattle.scp_script.specs.declared.progress.Finish.TheVariants.{Exit, OutOfMemory}
 use Rattle.session_texts.specs.Actions.{texts_of}
@@ -14,13 +18,14 @@ use Rattle.scp_script.proofs.LineLemmas.{none-read, all-done}
 use Rattle.scp_script.proofs.NoteLemmas.{over-alone, room-refused, left-at, closed-before}
 use Rattle.scp_script.proofs.KeptLemmas.{kept-none}
 use Rattle.scp_script.proofs.PortLemmas.{left-kept}
+use Rattle.scp_script.proofs.GrowLemmas.{stays-kept}
 use Rattle.session_texts.specs.Scripts.{still_open}
 use Rattle.session_texts.proofs.OpenLemmas.{stack-as, stack-still}
 use Rattle.scp_script.proofs.SpendingLemmas.{opens-since, cause-as}
 use Rattle.scp_script.proofs.command_loop.next_line.Goals as goal
 
 pub returns-then-is_err-clause-told : goal.returns-then-is_err-clause-told
-returns-then-is_err-clause-told g c = λ enough source apart sink whole begins next.
+returns-then-is_err-clause-told g c = λ enough source apart sink step whole begins next.
     let session = c.args.session.now in
     let taken = record session { spare = c.take_room.new.self.spare } in
     let ports = g.L.Lines.state c.args.ports.now in
@@ -33,7 +38,7 @@ returns-then-is_err-clause-told g c = λ enough source apart sink whole begins n
     (over-alone old new OutOfMemory before before (notes_said session.notes) (notes_said session.notes) refl (room-refused old new before refl refl))
 
 pub returns-in-Some-clause-told : goal.returns-in-Some-clause-told
-returns-in-Some-clause-told g c = λ enough source apart sink whole begins next.
+returns-in-Some-clause-told g c = λ enough source apart sink step whole begins next.
     let session = c.args.session.now in
     let number = ap (λ (x : CommandState). x.command) c.take_room.ensures.rest in
     let ports = g.L.Lines.state c.args.ports.now in
@@ -45,14 +50,15 @@ returns-in-Some-clause-told g c = λ enough source apart sink whole begins next.
     let after = output (g.S.Sink.written c.script_line.new.out) ports'.sent in
     let new = session_of c.script_line.new.session (beyond (g.F.Files.state c.script_line.new.files).files ports' whole) c.script_line.new.lines left in
     let scripts = c.in-Some.script ∷ c.pop_open.new.self in
+    let stepped = subst (λ (x : CommandState). InStep (attached_files x.machine) (g.F.Files.state c.args.files.now).files) (sym c.take_room.ensures.rest) step in
     let used = subst (λ (x : CommandState). NextTold g.F.Files.tells g.L.Lines.tells (session_of x named (record lines { texts = record lines.texts { scripts = scripts } }) left [])) (sym c.take_room.ensures.rest)
     (told-still g.F.Files.tells g.L.Lines.tells (session_of session named lines left []) scripts (c.is_empty.ensures.0 c.if-not-is_empty.false) c.in-Some.ensures.taken next) in
     closed-before (session_of session named lines left []) scripts c.script_line.result new before after (notes_said session.notes) (notes_said c.script_line.new.session.notes) (c.is_empty.ensures.0 c.if-not-is_empty.false) c.in-Some.ensures.taken
     (subst (λ (x : CommandState). Stepped (session_of x named (record lines { texts = record lines.texts { scripts = scripts } }) left) c.script_line.result new before after (notes_said x.notes) (notes_said c.script_line.new.session.notes))
-    c.take_room.ensures.rest (c.script_line.ensures.told (omega (arith, enough, number)) (λ tells. subst (λ (x : CommandState). AreApart ports x.machine.lines) (sym c.take_room.ensures.rest) (apart tells)) sink whole begins left used))
+    c.take_room.ensures.rest (c.script_line.ensures.told (omega (arith, enough, number)) (λ tells. subst (λ (x : CommandState). AreApart ports x.machine.lines) (sym c.take_room.ensures.rest) (apart tells)) sink stepped whole begins left used))
 
 pub returns-in-None-clause-told : goal.returns-in-None-clause-told
-returns-in-None-clause-told g c = λ enough source apart sink whole begins next.
+returns-in-None-clause-told g c = λ enough source apart sink step whole begins next.
     let session = c.args.session.now in
     let number = ap (λ (x : CommandState). x.command) c.take_room.ensures.rest in
     let ports = g.L.Lines.state c.args.ports.now in
@@ -64,27 +70,29 @@ returns-in-None-clause-told g c = λ enough source apart sink whole begins next.
     let after = output (g.S.Sink.written c.input_line.new.out) ports'.sent in
     let new = session_of c.input_line.new.session (beyond (g.F.Files.state c.input_line.new.files).files ports' whole) c.input_line.new.lines (g.C.Source.left c.input_line.new.input) in
     let scripts = c.pop_open.new.self in
+    let stepped = subst (λ (x : CommandState). InStep (attached_files x.machine) (g.F.Files.state c.args.files.now).files) (sym c.take_room.ensures.rest) step in
     let used = subst (λ (x : CommandState). NextTold g.F.Files.tells g.L.Lines.tells (session_of x named (record lines { texts = record lines.texts { scripts = scripts } }) left [])) (sym c.take_room.ensures.rest)
     (told-still g.F.Files.tells g.L.Lines.tells (session_of session named lines left []) scripts (c.is_empty.ensures.0 c.if-not-is_empty.false) (c.in-None.ensures.taken.0 ∙ sym c.in-None.ensures.taken.1) next) in
     closed-before (session_of session named lines left []) scripts c.input_line.result new before after (notes_said session.notes) (notes_said c.input_line.new.session.notes)
     (c.is_empty.ensures.0 c.if-not-is_empty.false) (c.in-None.ensures.taken.0 ∙ sym c.in-None.ensures.taken.1)
     (subst (λ (x : CommandState). Stepped (session_of x named (record lines { texts = record lines.texts { scripts = scripts } }) left) c.input_line.result new before after (notes_said x.notes) (notes_said c.input_line.new.session.notes))
-    c.take_room.ensures.rest (c.input_line.ensures.told (omega (arith, enough, number)) (source c.if-lines.true) (λ tells. subst (λ (x : CommandState). AreApart ports x.machine.lines) (sym c.take_room.ensures.rest) (apart tells)) sink whole begins used))
+    c.take_room.ensures.rest (c.input_line.ensures.told (omega (arith, enough, number)) (source c.if-lines.true) (λ tells. subst (λ (x : CommandState). AreApart ports x.machine.lines) (sym c.take_room.ensures.rest) (apart tells)) sink stepped whole begins used))
 
 pub returns-then-not-is_empty-clause-told : goal.returns-then-not-is_empty-clause-told
-returns-then-not-is_empty-clause-told g c = λ enough source apart sink whole begins next.
+returns-then-not-is_empty-clause-told g c = λ enough source apart sink step whole begins next.
     let number = ap (λ (x : CommandState). x.command) c.take_room.ensures.rest in
     let ports = g.L.Lines.state c.args.ports.now in
     let ports' = g.L.Lines.state c.action.new.ports in
     let named = beyond (g.F.Files.state c.args.files.now).files ports whole in
     let left = g.C.Source.left c.args.input.now in
     let new = session_of c.action.new.session (beyond (g.F.Files.state c.action.new.files).files ports' whole) c.action.new.lines left in
+    let stepped = subst (λ (x : CommandState). InStep (attached_files x.machine) (g.F.Files.state c.args.files.now).files) (sym c.take_room.ensures.rest) step in
     let used = subst (λ (x : CommandState). NextTold g.F.Files.tells g.L.Lines.tells (session_of x named c.args.lines.now left [])) (sym c.take_room.ensures.rest) next in
     subst (λ (x : CommandState). Stepped (session_of x named c.args.lines.now left) c.action.result new (output (g.S.Sink.written c.args.out.now) ports.sent) (output (g.S.Sink.written c.action.new.out) ports'.sent) (notes_said x.notes) (notes_said c.action.new.session.notes))
-    c.take_room.ensures.rest (c.action.ensures.told (omega (arith, enough, number)) (λ tells. subst (λ (x : CommandState). AreApart ports x.machine.lines) (sym c.take_room.ensures.rest) (apart tells)) sink whole begins left used)
+    c.take_room.ensures.rest (c.action.ensures.told (omega (arith, enough, number)) (λ tells. subst (λ (x : CommandState). AreApart ports x.machine.lines) (sym c.take_room.ensures.rest) (apart tells)) sink stepped whole begins left used)
 
 pub returns-in-None-2-clause-told : goal.returns-in-None-2-clause-told
-returns-in-None-2-clause-told g c = λ enough source apart sink whole begins next.
+returns-in-None-2-clause-told g c = λ enough source apart sink step whole begins next.
     let session = c.args.session.now in
     let taken = record session { spare = c.take_room.new.self.spare } in
     let ports = g.L.Lines.state c.args.ports.now in
@@ -220,3 +228,71 @@ returns-in-None-clause-scripts g c =
     let mid = c.pop_open.new.self in
     opens-since old mid c.input_line.new.lines.texts.scripts c.input_line.result
     (λ first most stack. stack-as first most (still_open old) mid (c.in-None.ensures.taken.1 ∙ sym c.in-None.ensures.taken.0) (stack-still first most old stack)) c.input_line.ensures.scripts
+
+-- ---- the disk's file
+
+pub returns-then-is_err-clause-step : goal.returns-then-is_err-clause-step
+returns-then-is_err-clause-step g c = λ source apart whole next.
+    stays-kept c.args.session.now c.take_room.new.self (g.F.Files.state c.args.files.now).files (ap (λ (x : CommandState). x.machine) c.take_room.ensures.rest)
+
+pub returns-in-None-2-clause-step : goal.returns-in-None-2-clause-step
+returns-in-None-2-clause-step g c = λ source apart whole next.
+    stays-kept c.args.session.now c.take_room.new.self (g.F.Files.state c.args.files.now).files (ap (λ (x : CommandState). x.machine) c.take_room.ensures.rest)
+
+pub returns-then-not-is_empty-clause-step : goal.returns-then-not-is_empty-clause-step
+returns-then-not-is_empty-clause-step g c = λ source apart whole next.
+    let ports = g.L.Lines.state c.args.ports.now in
+    let named = beyond (g.F.Files.state c.args.files.now).files ports whole in
+    let left = g.C.Source.left c.args.input.now in
+    let used = subst (λ (x : CommandState). NextTold g.F.Files.tells g.L.Lines.tells (session_of x named c.args.lines.now left [])) (sym c.take_room.ensures.rest) next in
+    subst (λ (x : CommandState). StaysWhereAlone x c.action.new.session (g.F.Files.state c.args.files.now).files (g.F.Files.state c.action.new.files).files) c.take_room.ensures.rest
+    (c.action.ensures.step (λ tells. subst (λ (x : CommandState). AreApart ports x.machine.lines) (sym c.take_room.ensures.rest) (apart tells)) whole left used)
+
+pub returns-in-Some-clause-step : goal.returns-in-Some-clause-step
+returns-in-Some-clause-step g c = λ source apart whole next.
+    let session = c.args.session.now in
+    let ports = g.L.Lines.state c.args.ports.now in
+    let named = beyond (g.F.Files.state c.args.files.now).files ports whole in
+    let lines = c.args.lines.now in
+    let left = g.C.Source.left c.args.input.now in
+    let scripts = c.in-Some.script ∷ c.pop_open.new.self in
+    let used = subst (λ (x : CommandState). NextTold g.F.Files.tells g.L.Lines.tells (session_of x named (record lines { texts = record lines.texts { scripts = scripts } }) left [])) (sym c.take_room.ensures.rest)
+    (told-still g.F.Files.tells g.L.Lines.tells (session_of session named lines left []) scripts (c.is_empty.ensures.0 c.if-not-is_empty.false) c.in-Some.ensures.taken next) in
+    subst (λ (x : CommandState). StaysWhereAlone x c.script_line.new.session (g.F.Files.state c.args.files.now).files (g.F.Files.state c.script_line.new.files).files) c.take_room.ensures.rest
+    (c.script_line.ensures.step (λ tells. subst (λ (x : CommandState). AreApart ports x.machine.lines) (sym c.take_room.ensures.rest) (apart tells)) whole left used)
+
+pub returns-in-None-clause-step : goal.returns-in-None-clause-step
+returns-in-None-clause-step g c = λ source apart whole next.
+    let session = c.args.session.now in
+    let ports = g.L.Lines.state c.args.ports.now in
+    let named = beyond (g.F.Files.state c.args.files.now).files ports whole in
+    let lines = c.args.lines.now in
+    let left = g.C.Source.left c.args.input.now in
+    let scripts = c.pop_open.new.self in
+    let used = subst (λ (x : CommandState). NextTold g.F.Files.tells g.L.Lines.tells (session_of x named (record lines { texts = record lines.texts { scripts = scripts } }) left [])) (sym c.take_room.ensures.rest)
+    (told-still g.F.Files.tells g.L.Lines.tells (session_of session named lines left []) scripts (c.is_empty.ensures.0 c.if-not-is_empty.false) (c.in-None.ensures.taken.0 ∙ sym c.in-None.ensures.taken.1) next) in
+    subst (λ (x : CommandState). StaysWhereAlone x c.input_line.new.session (g.F.Files.state c.args.files.now).files (g.F.Files.state c.input_line.new.files).files) c.take_room.ensures.rest
+    (c.input_line.ensures.step (source c.if-lines.true) (λ tells. subst (λ (x : CommandState). AreApart ports x.machine.lines) (sym c.take_room.ensures.rest) (apart tells)) whole used)
+
+-- ---- the console, and the input
+
+pub returns-then-is_err-clause-grows : goal.returns-then-is_err-clause-grows
+returns-then-is_err-clause-grows g c = grows-same g.S.Sink.tells (g.S.Sink.written c.args.out.now) (g.S.Sink.written c.args.out.now) refl
+
+pub returns-in-None-2-clause-grows : goal.returns-in-None-2-clause-grows
+returns-in-None-2-clause-grows g c = grows-same g.S.Sink.tells (g.S.Sink.written c.args.out.now) (g.S.Sink.written c.args.out.now) refl
+
+pub returns-then-is_err-clause-drops : goal.returns-then-is_err-clause-drops
+returns-then-is_err-clause-drops g c = λ source. (0, refl)
+
+pub returns-in-None-2-clause-drops : goal.returns-in-None-2-clause-drops
+returns-in-None-2-clause-drops g c = λ source. (0, refl)
+
+pub returns-then-not-is_empty-clause-drops : goal.returns-then-not-is_empty-clause-drops
+returns-then-not-is_empty-clause-drops g c = λ source. (0, refl)
+
+pub returns-in-Some-clause-drops : goal.returns-in-Some-clause-drops
+returns-in-Some-clause-drops g c = λ source. (0, refl)
+
+pub returns-in-None-clause-drops : goal.returns-in-None-clause-drops
+returns-in-None-clause-drops g c = λ source. c.input_line.ensures.drops (source c.if-lines.true)

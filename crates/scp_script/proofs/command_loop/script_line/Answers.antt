@@ -2,11 +2,15 @@ use Rattle.std.proofs.Common.{◌≡◌, ◌<◌, ◌≤◌, ◌-◌, ℕ, List,
 use Rattle.file_commands.specs.Notes.{Note, notes_said}
 use Rattle.scp_parser.specs.declared.fault.ParseFault.TheVariants.{TooLong}
 use Rattle.command_session.specs.declared.fault.CommandFault.TheVariants.{Parse}
+use Rattle.unit_files.specs.InStep.{InStep}
+use Rattle.nova_machine.specs.Machine.{attached_files}
 use Rattle.nova_machine.specs.Comes.{output}
 use Rattle.telnet_lines.specs.Many.{AreApart}
 use Rattle.command_session.specs.Live.{CommandState, live_in, beyond}
 use Rattle.command_session.specs.LinesLeft.{LinesLeft}
 use Rattle.command_session.specs.Asked.{asked}
+use Rattle.command_session.specs.DiskFile.{StaysWhereAlone}
+use Rattle.command_session.proofs.GrowLemmas.{grows-same, grows-both}
 use Rattle.command_session.proofs.AskedLemmas.{long-asked}
 use Rattle.scp_script.specs.declared.progress.CommandLoop.{CommandLoop}
 use Rattle.scp_script.specs.declared.progress.Progress.TheVariants.{IsOver}
@@ -21,13 +25,14 @@ use Rattle.scp_script.proofs.LineLemmas.{asking-refused, text-unpaid, some-fits,
 use Rattle.scp_script.proofs.NoteLemmas.{script-stepped, over-alone, left-at, never-short, same-read, answer-kept}
 use Rattle.scp_script.proofs.KeptLemmas.{kept-none, kept-paid}
 use Rattle.scp_script.proofs.PortLemmas.{left-kept}
+use Rattle.scp_script.proofs.GrowLemmas.{grows-by, grows-part, stays-kept}
 use Rattle.scp_script.proofs.UsedLemmas.{script-used}
 use Rattle.session_texts.proofs.OpenLemmas.{stack-as, stack-past}
 use Rattle.scp_script.proofs.SpendingLemmas.{opens-failed, opens-since, paid-text, denied-text}
 use Rattle.scp_script.proofs.command_loop.script_line.Goals as goal
 
 pub returns-then-not-pay-clause-told : goal.returns-then-not-pay-clause-told
-returns-then-not-pay-clause-told g c = λ enough apart sink whole begins input next.
+returns-then-not-pay-clause-told g c = λ enough apart sink step whole begins input next.
     let session = c.args.session.now in
     let paid = c.pay.new.session in
     let now_state = record session { command = paid.command } in
@@ -51,7 +56,7 @@ returns-then-not-pay-clause-told g c = λ enough apart sink whole begins input n
     (same-read lines.reader.open_ now.reader.open_ input input reader refl) refl))
 
 pub returns-in-Err-clause-told : goal.returns-in-Err-clause-told
-returns-in-Err-clause-told g c = λ enough apart sink whole begins input next.
+returns-in-Err-clause-told g c = λ enough apart sink step whole begins input next.
     let session = c.args.session.now in
     let paid = c.pay.new.session in
     let now_state = record session { command = paid.command } in
@@ -76,7 +81,7 @@ returns-in-Err-clause-told g c = λ enough apart sink whole begins input next.
     (same-read lines.reader.open_ now.reader.open_ input input reader refl) (c.in-Err.ensures.told sink) refl))
 
 pub returns-in-Some-clause-told : goal.returns-in-Some-clause-told
-returns-in-Some-clause-told g c = λ enough apart sink whole begins input next.
+returns-in-Some-clause-told g c = λ enough apart sink step whole begins input next.
     let session = c.args.session.now in
     let paid = c.pay.new.session in
     let now_state = record session { command = paid.command } in
@@ -111,14 +116,15 @@ returns-in-Some-clause-told g c = λ enough apart sink whole begins input next.
     let used = script-used g.F.Files.tells g.L.Lines.tells session paid named lines script outer input c.as_slice.result.now c.push.new.self (ap (λ (x : CommandState). x.machine) is) there c.requires.line fits pushed line next in
     let spent : done.command ≡ spent_more session.command (cost_of_line script) = omega (arith, c.pay.ensures.command, c.answer.ensures.command, fits, budget) in
     let less : session.command < done.command = omega (arith, spent, enough, fits) in
+    let stepped = subst (λ (x : CommandState). InStep (attached_files x.machine) (g.F.Files.state c.args.files.now).files) (sym is) step in
     let told = subst (λ (x : CommandState). Answers x.limit (live_in x named) (texts_of [] (past_line script ∷ outer)) what done.command result live (coming c.answer.new.texts) tells mid after (notes_said x.notes) (notes_said done.notes)) is
     (subst (λ (t : Texts). Answers paid.limit (live_in paid named) t what done.command result live (coming c.answer.new.texts) tells mid after (notes_said paid.notes) (notes_said done.notes)) stack
     (subst (λ n. Answers paid.limit (live_in paid named) (texts_of now.texts.actions c.push.new.self) what n result live (coming c.answer.new.texts) tells mid after (notes_said paid.notes) (notes_said done.notes)) (sym c.answer.ensures.command)
-    (c.answer.ensures.told used (λ tells. subst (λ (x : CommandState). AreApart ports x.machine.lines) (sym is) (apart tells)) whole begins))) in
+    (c.answer.ensures.told used (λ tells. subst (λ (x : CommandState). AreApart ports x.machine.lines) (sym is) (apart tells)) stepped whole begins))) in
     let short = λ (own : List Note) (e : notes_said done.notes ≡ notes_said session.notes ++ own).
     subst (λ (x : CommandState). IsShort what done.command result (live_in x named) live own mid after) is
     (subst (λ n. IsShort what n result (live_in paid named) live own mid after) (sym c.answer.ensures.command)
-    (c.answer.ensures.short used whole own (e ∙ ap (λ (x : CommandState). notes_said x.notes ++ own) (sym is)))) in
+    (c.answer.ensures.short used stepped whole own (e ∙ ap (λ (x : CommandState). notes_said x.notes ++ own) (sym is)))) in
     let limit = c.answer.ensures.limit ∙ ap (λ (x : CommandState). x.limit) is in
     script-stepped (session_of session named lines input []) (session_of done (beyond (g.F.Files.state c.answer.new.files).files ports' whole) last input []) script outer what result tells before mid after
     (notes_said session.notes) (notes_said done.notes) sink there c.requires.line fits (ap asked (sym line))
@@ -126,7 +132,7 @@ returns-in-Some-clause-told g c = λ enough apart sink whole begins input next.
     (c.in-Ok.ensures.told sink) refl told short
 
 pub returns-in-None-clause-told : goal.returns-in-None-clause-told
-returns-in-None-clause-told g c = λ enough apart sink whole begins input next.
+returns-in-None-clause-told g c = λ enough apart sink step whole begins input next.
     let session = c.args.session.now in
     let paid = c.pay.new.session in
     let now_state = record session { command = paid.command } in
@@ -285,3 +291,57 @@ returns-in-None-clause-scripts g c =
     opens-since (script ∷ outer) mid c.deny_line.new.texts.scripts c.deny_line.result
     (λ first most stack. stack-as first most (past_line script ∷ outer) mid pushed (stack-past first most script outer stack))
     (opens-failed _ mid c.deny_line.new.texts.scripts c.deny_line.result c.deny_line.ensures.scripts)
+
+-- ---- the disk's file, and the console
+
+pub returns-then-not-pay-clause-step : goal.returns-then-not-pay-clause-step
+returns-then-not-pay-clause-step g c = λ apart whole input next.
+    stays-kept c.args.session.now c.pay.new.session (g.F.Files.state c.args.files.now).files (ap (λ (x : CommandState). x.machine) c.pay.ensures.rest)
+
+pub returns-in-Err-clause-step : goal.returns-in-Err-clause-step
+returns-in-Err-clause-step g c = λ apart whole input next.
+    stays-kept c.args.session.now c.pay.new.session (g.F.Files.state c.args.files.now).files (ap (λ (x : CommandState). x.machine) c.pay.ensures.rest)
+
+pub returns-in-None-clause-step : goal.returns-in-None-clause-step
+returns-in-None-clause-step g c = λ apart whole input next.
+    stays-kept c.args.session.now c.pay.new.session (g.F.Files.state c.args.files.now).files (ap (λ (x : CommandState). x.machine) c.pay.ensures.rest)
+
+pub returns-in-Some-clause-step : goal.returns-in-Some-clause-step
+returns-in-Some-clause-step g c = λ apart whole input next.
+    let session = c.args.session.now in
+    let paid = c.pay.new.session in
+    let ports = g.L.Lines.state c.args.ports.now in
+    let named = beyond (g.F.Files.state c.args.files.now).files ports whole in
+    let script = c.args.script in
+    let outer = c.args.lines.now.texts.scripts in
+    let lines = record c.args.lines.now { texts = record c.args.lines.now.texts { scripts = script ∷ outer } } in
+    let now = c.pay.new.lines in
+    let is = c.pay.ensures.rest in
+    let there : texts_of c.args.lines.now.texts.actions (script ∷ outer) ≡ texts_of [] (script ∷ outer) = ap (λ (a : List (List ℕ)). texts_of a (script ∷ outer)) c.requires.actions in
+    let paid_for = c.pay.ensures.paid c.if-not-pay.false in
+    let fits : cost_of_line script ≤ lines.budget = omega (arith, paid_for.0, c.line_cost.ensures) in
+    let pushed : c.push.new.self ≡ past_line script ∷ outer =
+    c.push.ensures ∙ ap (λ (x : Script). x ∷ now.texts.scripts) c.take_line-text.ensures.past ∙ ap (λ (x : CommandLoop). past_line script ∷ x.texts.scripts) c.pay.ensures.lines in
+    let line : c.as_slice.result.now ≡ text_of_line script = c.as_slice.ensures ∙ some-fits c.in-Some.text (text_of_line script) (sym c.in-Some.is ∙ c.take_line-text.ensures.text) in
+    subst (λ (x : CommandState). StaysWhereAlone x c.answer.new.session (g.F.Files.state c.args.files.now).files (g.F.Files.state c.answer.new.files).files) is
+    (c.answer.ensures.step
+    (script-used g.F.Files.tells g.L.Lines.tells session paid named lines script outer input c.as_slice.result.now c.push.new.self (ap (λ (x : CommandState). x.machine) is) there c.requires.line fits pushed line next)
+    (λ tells. subst (λ (x : CommandState). AreApart ports x.machine.lines) (sym is) (apart tells)))
+
+pub returns-then-not-pay-clause-grows : goal.returns-then-not-pay-clause-grows
+returns-then-not-pay-clause-grows g c = grows-same g.S.Sink.tells (g.S.Sink.written c.args.out.now) (g.S.Sink.written c.args.out.now) refl
+
+pub returns-in-Err-clause-grows : goal.returns-in-Err-clause-grows
+returns-in-Err-clause-grows g c = grows-part g.S.Sink.tells (g.S.Sink.written c.args.out.now) (echo_text c.args.script) (g.S.Sink.written c.put_echo.new.out) c.in-Err.ensures.told
+
+pub returns-in-Some-clause-grows : goal.returns-in-Some-clause-grows
+returns-in-Some-clause-grows g c =
+    let before = g.S.Sink.written c.args.out.now in
+    let mid = g.S.Sink.written c.put_echo.new.out in
+    grows-both g.S.Sink.tells before mid (g.S.Sink.written c.answer.new.out) (grows-by g.S.Sink.tells before (echo_text c.args.script) mid c.in-Ok.ensures.told) c.answer.ensures.grows
+
+pub returns-in-None-clause-grows : goal.returns-in-None-clause-grows
+returns-in-None-clause-grows g c =
+    let before = g.S.Sink.written c.args.out.now in
+    let mid = g.S.Sink.written c.put_echo.new.out in
+    grows-both g.S.Sink.tells before mid (g.S.Sink.written c.deny_line.new.out) (grows-by g.S.Sink.tells before (echo_text c.args.script) mid c.in-Ok.ensures.told) c.deny_line.ensures.grows

@@ -1,5 +1,9 @@
-use Rattle.std.proofs.Common.{◌≡◌, ◌-◌, Bool, IsTrue, true, List, [], Option, refl, ap, sym, ◌∙◌, subst, arith}
+use Rattle.std.proofs.Common.{◌≡◌, ◌⊎◌, inl, inr, ⊎_elim, ℕ, ◌-◌, Bool, IsTrue, true, List, [], Option, refl, ap, sym, ◌∙◌, subst, arith}
 use Rattle.unit_list.specs.Bus.{kinds_of}
+use Rattle.file_traits.specs.Lists.{NamedBytes}
+use Rattle.host_lines.specs.State.{LineState}
+use Rattle.unit_files.specs.InStep.{InStep}
+use Rattle.nova_machine.specs.Machine.{attached_files}
 use Rattle.unit_files.specs.Attachments.{Held}
 use Rattle.unit_files.specs.Open.{AllOpen, Around}
 use Rattle.file_commands.specs.declared.note.FaultNote.{FaultNote}
@@ -15,17 +19,30 @@ use Rattle.scp_script.specs.Spending.{FinishAt}
 use Rattle.scp_script.specs.Perform.{beginning, beginning_with}
 use Rattle.host_lines.specs.Traffic.{Answer as LineAnswer}
 use Rattle.host_lines.specs.Told.{IsFirst, record_in}
-use Rattle.nova_machine.specs.Comes.{output}
+use Rattle.nova_machine.specs.Comes.{Output, output}
+use Rattle.command_session.proofs.CloseLemmas.{said-append}
 use Rattle.command_session.specs.LinesLeft.{LinesLeft}
 use Rattle.nova_machine.proofs.LineSteps.{first-same, first-through}
 use Rattle.command_session.proofs.PortLemmas.{left-same, left-then}
 use Rattle.command_session.specs.Live.{CommandState, beyond}
-use Rattle.scp_script.specs.Loop.{AreKeptFor, session_of}
-use Rattle.scp_script.proofs.WholeLemmas.{ComesSoFar, begun, never-begun, further, over, causes-behind, kept-since}
+use Rattle.scp_script.specs.Loop.{AreKeptFor, NumbersSuffice, session_of}
+use Rattle.scp_script.proofs.WholeLemmas.{ComesSoFar, begun, never-begun, over, causes-behind, kept-since}
+use Rattle.scp_script.proofs.UnsaidLemmas.{SaidUpTo, said-on, no-more, turned}
 use Rattle.scp_script.proofs.KeptLemmas.{kept-none, kept-both}
 use Rattle.scp_script.proofs.UsedLemmas.{next-told, grown}
 use Rattle.scp_script.proofs.SpendingLemmas.{begins-so, goes-so, ends-so}
 use Rattle.scp_script.proofs.perform_session.perform.Goals as goal
+
+-- where a session came so far: what the disk holds is in step with its file, and all is said that was done
+abbrev IsNow : (List LineAnswer → List Note → Session) → CommandState → List NamedBytes → LineState → CommandLoop → List ℕ → Output → Output → List Note → Type 0
+IsNow begin s files ports l left before after notes =
+    InStep (attached_files s.machine) files
+    × ((w : List LineAnswer) → IsFirst (record_in ports.told) w → ComesSoFar (begin w) (session_of s (beyond files ports w) l left) before after notes (notes_said s.notes))
+
+-- or no more is said from some text on
+abbrev IsSaidOrNow : (List LineAnswer → List Note → Session) → Bool → CommandState → List NamedBytes → LineState → CommandLoop → List ℕ → Output → Output → List Note → Type 0
+IsSaidOrNow begin tells s files ports l left before after notes =
+    SaidUpTo begin tells ports left before after notes (notes_said s.notes) ⊎ IsNow begin s files ports l left before after notes
 
 pub lines-init : goal.lines-init
 unfolding beginning beginning_with
@@ -44,11 +61,14 @@ lines-init g c =
       come = begins-so first (opening.budget - c.in-Ok.texts.budget) c.in-Ok.texts.texts.actions c.in-Ok.texts.texts.scripts (omega (arith, budget))
           (stack-first first (first-one opening.script opening.arguments.items) (subst AreFiles scripts c.in-Ok.ensures.files)) (ap (λ (x : CommandLoop). x.texts.actions) started) scripts;
       unread = λ off. refl;
-      told = λ enough source used apart sink whole begins.
-          let ports = g.L.Lines.state c.args.lines.now in
-          rw started (begun (session_of c.args.session.now (beyond (g.F.Files.state c.args.files.now).files ports whole)
-          (record { texts = record { actions = []; scripts = first_script c.args.opening.now.script c.args.opening.now.arguments.items }; reads = c.args.opening.now.reads; reader = record { line = []; open_ = true }; budget = c.args.opening.now.budget; prompt = c.args.opening.now.prompt })
-          (g.C.Source.left c.args.input.now)) (output (g.S.Sink.written c.args.out.now) ports.sent) (notes_said c.args.session.now.notes));
+      told = λ enough source used apart sink step. inr (
+        step,
+        λ whole begins.
+            let ports = g.L.Lines.state c.args.lines.now in
+            rw started (begun (session_of c.args.session.now (beyond (g.F.Files.state c.args.files.now).files ports whole)
+            (record { texts = record { actions = []; scripts = first_script c.args.opening.now.script c.args.opening.now.arguments.items }; reads = c.args.opening.now.reads; reader = record { line = []; open_ = true }; budget = c.args.opening.now.budget; prompt = c.args.opening.now.prompt })
+            (g.C.Source.left c.args.input.now)) (output (g.S.Sink.written c.args.out.now) ports.sent) (notes_said c.args.session.now.notes)),
+      );
       lines = left-same g.L.Lines.tells (g.L.Lines.state c.args.lines.now) c.args.session.now.machine.lines;
       source = refl;
       sink = refl;
@@ -77,31 +97,37 @@ lines-preserved g c =
       come = goes-so (first_script c.args.opening.now.script c.args.opening.now.arguments.items) c.args.opening.now.budget c.lines.texts.budget c.next_line.new.lines.budget c.lines.texts.texts.actions
           c.next_line.new.lines.texts.actions c.lines.texts.texts.scripts c.next_line.new.lines.texts.scripts c.in-GoesOn.ensures.pays c.lines.invariant.paid c.lines.invariant.come c.in-GoesOn.ensures.scripts;
       unread = λ off. c.in-GoesOn.ensures.unread (c.lines.invariant.reads ∙ off) ∙ c.lines.invariant.unread off;
-      told = λ enough source used apart sink whole begins.
+      told = λ enough source used apart sink step.
           let ports = g.L.Lines.state c.args.lines.now in
           let ports-mid = g.L.Lines.state c.lines.lines in
           let ports' = g.L.Lines.state c.next_line.new.ports in
+          let mid_files = (g.F.Files.state c.lines.files).files in
+          let before = output (g.S.Sink.written c.args.out.now) ports.sent in
+          let printed = output (g.S.Sink.written c.lines.out) ports-mid.sent in
+          let after = output (g.S.Sink.written c.next_line.new.out) ports'.sent in
+          let notes = notes_said c.args.session.now.notes in
+          let left = g.C.Source.left c.lines.input in
+          let left' = g.C.Source.left c.next_line.new.input in
           let begin = λ (w : List LineAnswer) (notes : List Note). beginning c.args.session.now (beyond (g.F.Files.state c.args.files.now).files ports w) c.args.opening.now (g.C.Source.left c.args.input.now) notes in
-          let mid = λ (w : List LineAnswer) (notes : List Note). session_of c.lines.session (beyond (g.F.Files.state c.lines.files).files ports-mid w) c.lines.texts (g.C.Source.left c.lines.input) notes in
-          let so_far = c.lines.invariant.told enough source used apart sink in
-          let next = λ (w : List LineAnswer) (at : IsFirst (record_in ports-mid.told) w).
-          next-told g.F.Files.tells g.L.Lines.tells begin w (mid w) (output (g.S.Sink.written c.args.out.now) ports.sent) (output (g.S.Sink.written c.lines.out) ports-mid.sent)
-          (notes_said c.args.session.now.notes) (notes_said c.lines.session.notes) used (so_far w at) in
           let reads = λ (on : c.lines.texts.reads ≡ true). source (sym c.lines.invariant.reads ∙ on) in
           let apart-mid = λ (tells : IsTrue g.L.Lines.tells). (c.lines.invariant.lines.told tells (apart tells)).0 in
-          let grows = grown g.L.Lines.tells ports-mid ports' (λ tells. (c.in-GoesOn.ensures.ports.told tells (apart-mid tells)).1)
-          (λ untold. c.next_line.ensures.still reads untold (record_in ports-mid.told) (next (record_in ports-mid.told) (first-same (record_in ports-mid.told)))) in
-          let back = first-through (record_in ports-mid.told) (record_in ports'.told) whole grows begins in
-          let start : List Note → Session = λ notes. beginning c.args.session.now (beyond (g.F.Files.state c.args.files.now).files ports whole) c.args.opening.now (g.C.Source.left c.args.input.now) notes in
-          subst (λ (x : CommandState). ComesSoFar start (session_of x (beyond new.files ports' whole) c.next_line.new.lines (g.C.Source.left c.next_line.new.input))
-          (output (g.S.Sink.written c.args.out.now) ports.sent) (output (g.S.Sink.written c.next_line.new.out) ports'.sent) (notes_said c.args.session.now.notes) (notes_said x.notes)) (sym is)
-          (further start
-          (session_of c.lines.session (beyond (g.F.Files.state c.lines.files).files ports-mid whole) c.lines.texts (g.C.Source.left c.lines.input))
-          (session_of done (beyond new.files ports' whole) c.next_line.new.lines (g.C.Source.left c.next_line.new.input))
-          (output (g.S.Sink.written c.args.out.now) ports.sent) (output (g.S.Sink.written c.lines.out) ports-mid.sent) (output (g.S.Sink.written c.next_line.new.out) ports'.sent)
-          (notes_said c.args.session.now.notes) (notes_said c.lines.session.notes) (notes_said done.notes)
-          (so_far whole back)
-          (c.in-GoesOn.ensures.told (omega (arith, enough, c.lines.invariant.command, c.lines.invariant.paid)) reads apart-mid sink whole begins (next whole back)));
+          let later = λ (tells : IsTrue g.L.Lines.tells). (c.in-GoesOn.ensures.ports.told tells (apart-mid tells)).1 in
+          let numbers : NumbersSuffice c.lines.session.command c.lines.texts.budget = omega (arith, enough, c.lines.invariant.command, c.lines.invariant.paid) in
+          let kept = c.in-GoesOn.ensures.keeps in
+          subst (λ (x : CommandState). IsSaidOrNow begin g.L.Lines.tells x new.files ports' c.next_line.new.lines left' before after notes) (sym is)
+          (⊎_elim
+          (λ (said : SaidUpTo begin g.L.Lines.tells ports-mid left before printed notes (notes_said c.lines.session.notes)).
+          inl (said-on begin g.L.Lines.tells ports-mid ports' left left' before printed after notes (notes_said c.lines.session.notes) (notes_said done.notes) (notes_said kept.kept) later (c.in-GoesOn.ensures.grows sink)
+          (ap notes_said kept.added ∙ said-append c.lines.session.notes kept.kept) (c.in-GoesOn.ensures.drops reads) said))
+          (λ (now : IsNow begin c.lines.session mid_files ports-mid c.lines.texts left before printed notes).
+          let next = λ (w : List LineAnswer) (at : IsFirst (record_in ports-mid.told) w).
+          next-told g.F.Files.tells g.L.Lines.tells begin w (session_of c.lines.session (beyond mid_files ports-mid w) c.lines.texts left) before printed notes (notes_said c.lines.session.notes) used (now.1 w at) in
+          let first = next (record_in ports-mid.told) (first-same (record_in ports-mid.told)) in
+          let grows = grown g.L.Lines.tells ports-mid ports' later (λ untold. c.next_line.ensures.still reads untold (record_in ports-mid.told) first) in
+          turned begin g.L.Lines.tells c.lines.session done mid_files new.files ports-mid ports' c.lines.texts c.next_line.new.lines left left' before printed after notes (notes_said c.lines.session.notes) (notes_said done.notes)
+          grows (c.in-GoesOn.ensures.step reads apart-mid (record_in ports-mid.told) first) now.0 now.1
+          (λ w begins. c.in-GoesOn.ensures.told numbers reads apart-mid sink now.0 w begins (next w (first-through (record_in ports-mid.told) (record_in ports'.told) w grows begins))))
+          (c.lines.invariant.told enough source used apart sink step));
       lines =
           let ports = g.L.Lines.state c.args.lines.now in
           let ports' = g.L.Lines.state c.next_line.new.ports in
@@ -132,28 +158,39 @@ lines-preserved g c =
     }
 
 pub returns-in-IsOver-clause-told : goal.returns-in-IsOver-clause-told
-returns-in-IsOver-clause-told g c = λ enough source used apart sink whole begins.
+returns-in-IsOver-clause-told g c = λ enough source used apart sink step whole begins.
     let ports = g.L.Lines.state c.args.lines.now in
     let ports-mid = g.L.Lines.state c.lines.lines in
     let ports' = g.L.Lines.state c.next_line.new.ports in
+    let mid_files = (g.F.Files.state c.lines.files).files in
+    let done = c.next_line.new.session in
+    let before = output (g.S.Sink.written c.args.out.now) ports.sent in
+    let printed = output (g.S.Sink.written c.lines.out) ports-mid.sent in
+    let after = output (g.S.Sink.written c.next_line.new.out) ports'.sent in
+    let notes = notes_said c.args.session.now.notes in
+    let left = g.C.Source.left c.lines.input in
+    let left' = g.C.Source.left c.next_line.new.input in
     let begin = λ (w : List LineAnswer) (notes : List Note). beginning c.args.session.now (beyond (g.F.Files.state c.args.files.now).files ports w) c.args.opening.now (g.C.Source.left c.args.input.now) notes in
-    let mid = λ (w : List LineAnswer) (notes : List Note). session_of c.lines.session (beyond (g.F.Files.state c.lines.files).files ports-mid w) c.lines.texts (g.C.Source.left c.lines.input) notes in
-    let so_far = c.lines.invariant.told enough source used apart sink in
-    let next = λ (w : List LineAnswer) (at : IsFirst (record_in ports-mid.told) w).
-    next-told g.F.Files.tells g.L.Lines.tells begin w (mid w) (output (g.S.Sink.written c.args.out.now) ports.sent) (output (g.S.Sink.written c.lines.out) ports-mid.sent)
-    (notes_said c.args.session.now.notes) (notes_said c.lines.session.notes) used (so_far w at) in
     let reads = λ (on : c.lines.texts.reads ≡ true). source (sym c.lines.invariant.reads ∙ on) in
     let apart-mid = λ (tells : IsTrue g.L.Lines.tells). (c.lines.invariant.lines.told tells (apart tells)).0 in
-    let grows = grown g.L.Lines.tells ports-mid ports' (λ tells. (c.in-IsOver.ensures.ports.told tells (apart-mid tells)).1)
-    (λ untold. c.next_line.ensures.still reads untold (record_in ports-mid.told) (next (record_in ports-mid.told) (first-same (record_in ports-mid.told)))) in
+    let later = λ (tells : IsTrue g.L.Lines.tells). (c.in-IsOver.ensures.ports.told tells (apart-mid tells)).1 in
+    let numbers : NumbersSuffice c.lines.session.command c.lines.texts.budget = omega (arith, enough, c.lines.invariant.command, c.lines.invariant.paid) in
+    let kept = c.in-IsOver.ensures.keeps in
+    ⊎_elim
+    (λ (said : SaidUpTo begin g.L.Lines.tells ports-mid left before printed notes (notes_said c.lines.session.notes)).
+    inl (no-more begin g.L.Lines.tells ports' whole left' before after notes (notes_said done.notes) begins
+    (said-on begin g.L.Lines.tells ports-mid ports' left left' before printed after notes (notes_said c.lines.session.notes) (notes_said done.notes) (notes_said kept.kept) later (c.in-IsOver.ensures.grows sink)
+    (ap notes_said kept.added ∙ said-append c.lines.session.notes kept.kept) (c.in-IsOver.ensures.drops reads) said)))
+    (λ (now : IsNow begin c.lines.session mid_files ports-mid c.lines.texts left before printed notes).
+    let next = λ (w : List LineAnswer) (at : IsFirst (record_in ports-mid.told) w).
+    next-told g.F.Files.tells g.L.Lines.tells begin w (session_of c.lines.session (beyond mid_files ports-mid w) c.lines.texts left) before printed notes (notes_said c.lines.session.notes) used (now.1 w at) in
+    let first = next (record_in ports-mid.told) (first-same (record_in ports-mid.told)) in
+    let grows = grown g.L.Lines.tells ports-mid ports' later (λ untold. c.next_line.ensures.still reads untold (record_in ports-mid.told) first) in
     let back = first-through (record_in ports-mid.told) (record_in ports'.told) whole grows begins in
-    over (λ notes. beginning c.args.session.now (beyond (g.F.Files.state c.args.files.now).files ports whole) c.args.opening.now (g.C.Source.left c.args.input.now) notes)
-    (session_of c.lines.session (beyond (g.F.Files.state c.lines.files).files ports-mid whole) c.lines.texts (g.C.Source.left c.lines.input))
-    (session_of c.next_line.new.session (beyond (g.F.Files.state c.next_line.new.files).files ports' whole) c.next_line.new.lines (g.C.Source.left c.next_line.new.input) [])
-    c.in-IsOver.finish (output (g.S.Sink.written c.args.out.now) ports.sent) (output (g.S.Sink.written c.lines.out) ports-mid.sent) (output (g.S.Sink.written c.next_line.new.out) ports'.sent)
-    (notes_said c.args.session.now.notes) (notes_said c.lines.session.notes) (notes_said c.next_line.new.session.notes)
-    (so_far whole back)
-    (c.in-IsOver.ensures.told (omega (arith, enough, c.lines.invariant.command, c.lines.invariant.paid)) reads apart-mid sink whole begins (next whole back))
+    inr (over (begin whole) (session_of c.lines.session (beyond mid_files ports-mid whole) c.lines.texts left)
+    (session_of done (beyond (g.F.Files.state c.next_line.new.files).files ports' whole) c.next_line.new.lines left' []) c.in-IsOver.finish before printed after notes (notes_said c.lines.session.notes) (notes_said done.notes)
+    (now.1 whole back) (c.in-IsOver.ensures.told numbers reads apart-mid sink now.0 whole begins (next whole back))))
+    (c.lines.invariant.told enough source used apart sink step)
 
 pub returns-in-IsOver-clause-lines : goal.returns-in-IsOver-clause-lines
 returns-in-IsOver-clause-lines g c =
@@ -231,7 +268,7 @@ returns-in-IsOver-clause-kept g c =
 
 pub returns-in_default-clause-told : goal.returns-in_default-clause-told
 unfolding beginning beginning_with
-returns-in_default-clause-told g c = λ enough source used apart sink whole begins.
+returns-in_default-clause-told g c = λ enough source used apart sink step whole begins.
     let ports = g.L.Lines.state c.args.lines.now in
-    never-begun (λ notes. beginning c.args.session.now (beyond (g.F.Files.state c.args.files.now).files ports whole) c.args.opening.now (g.C.Source.left c.args.input.now) notes)
-    (output (g.S.Sink.written c.args.out.now) ports.sent) (notes_said c.args.session.now.notes) refl
+    inr (never-begun (λ notes. beginning c.args.session.now (beyond (g.F.Files.state c.args.files.now).files ports whole) c.args.opening.now (g.C.Source.left c.args.input.now) notes)
+    (output (g.S.Sink.written c.args.out.now) ports.sent) (notes_said c.args.session.now.notes) refl)
