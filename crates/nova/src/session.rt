@@ -45,7 +45,8 @@ pub fn session<U: Unit, C: Source, S: Sink, F: Files, L: Lines>(
         → (whole : List LineAnswer) → IsFirst (record_in (L.state lines.new).told) whole
         → SaysNoMore L.tells (texts_of words.now) (C.left input.old) (C.left input.new) (S.written output.old)
         (S.written output.new) (beyond (F.state files.old).files (L.state lines.old) whole)
-        (beyond (F.state files.new).files (L.state lines.new) whole) (notes_said faults) ⊎ IsOutcome (texts_of words.now) (C.left input.old) (C.left input.new) (S.written output.old)
+        (beyond (F.state files.new).files (L.state lines.new) whole) (notes_said faults)
+        ⊎ IsOutcome (texts_of words.now) (C.left input.old) (C.left input.new) (S.written output.old)
         (S.written output.new) (beyond (F.state files.old).files (L.state lines.old) whole)
         (beyond (F.state files.new).files (L.state lines.new) whole) (exit_status result) machine (notes_said faults))
         (InputTells (texts_of words.now) C.tells → ProgramTold F.tells L.tells (texts_of words.now)
@@ -54,7 +55,8 @@ pub fn session<U: Unit, C: Source, S: Sink, F: Files, L: Lines>(
         → (whole : List LineAnswer) → IsFirst (record_in (L.state lines.new).told) whole
         → SaysNoMore L.tells (texts_of words.now) (C.left input.old) (C.left input.new) (S.written output.old)
         (S.written output.new) (beyond (F.state files.old).files (L.state lines.old) whole)
-        (beyond (F.state files.new).files (L.state lines.new) whole) (notes_said faults) ⊎ IsCutShort (texts_of words.now) (C.left input.old) (C.left input.new) (S.written output.old)
+        (beyond (F.state files.new).files (L.state lines.new) whole) (notes_said faults)
+        ⊎ IsCutShort (texts_of words.now) (C.left input.old) (C.left input.new) (S.written output.old)
         (S.written output.new) (beyond (F.state files.old).files (L.state lines.old) whole)
         (beyond (F.state files.new).files (L.state lines.new) whole) machine (notes_said faults))
         (InputTells (texts_of words.now) C.tells → ProgramTold F.tells L.tells (texts_of words.now)
@@ -65,7 +67,8 @@ pub fn session<U: Unit, C: Source, S: Sink, F: Files, L: Lines>(
         → (whole : List LineAnswer) → IsFirst (record_in (L.state lines.new).told) whole
         → SaysNoMore L.tells (texts_of words.now) (C.left input.old) (C.left input.new) (S.written output.old)
         (S.written output.new) (beyond (F.state files.old).files (L.state lines.old) whole)
-        (beyond (F.state files.new).files (L.state lines.new) whole) [] ⊎ IsComplete (texts_of words.now) (C.left input.old) (C.left input.new) (S.written output.old)
+        (beyond (F.state files.new).files (L.state lines.new) whole) []
+        ⊎ IsComplete (texts_of words.now) (C.left input.old) (C.left input.new) (S.written output.old)
         (S.written output.new) (beyond (F.state files.old).files (L.state lines.old) whole)
         (beyond (F.state files.new).files (L.state lines.new) whole) (exit_status result) machine)
         (InputTells (texts_of words.now) C.tells → ProgramTold F.tells L.tells (texts_of words.now)
@@ -74,7 +77,8 @@ pub fn session<U: Unit, C: Source, S: Sink, F: Files, L: Lines>(
         → (whole : List LineAnswer) → IsFirst (record_in (L.state lines.new).told) whole
         → SaysNoMore L.tells (texts_of words.now) (C.left input.old) (C.left input.new) (S.written output.old)
         (S.written output.new) (beyond (F.state files.old).files (L.state lines.old) whole)
-        (beyond (F.state files.new).files (L.state lines.new) whole) (notes_said faults) ⊎ ResumesSaved (texts_of words.now) (C.left input.old) (C.left input.new) (S.written output.old)
+        (beyond (F.state files.new).files (L.state lines.new) whole) (notes_said faults)
+        ⊎ ResumesSaved (texts_of words.now) (C.left input.old) (C.left input.new) (S.written output.old)
         (S.written output.new) (beyond (F.state files.old).files (L.state lines.old) whole)
         (beyond (F.state files.new).files (L.state lines.new) whole) (exit_status result) machine (notes_said faults))
         (LinesAtEnd machine (L.state lines.old) (L.state lines.new))

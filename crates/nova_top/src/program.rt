@@ -82,7 +82,8 @@ pub fn simulate<U: Unit, C: Source, S: Sink, F: Files, L: Lines>(
         → (whole : List LineAnswer) → IsFirst (record_in (L.state lines.new).told) whole
         → SaysNoMore L.tells (texts_of words.now) (C.left input.old) (C.left input.new) (S.written output.old)
         (S.written output.new) (beyond (F.state files.old).files (L.state lines.old) whole)
-        (beyond (F.state files.new).files (L.state lines.new) whole) (notes_said result.faults.items) ⊎ IsOutcome (texts_of words.now) (C.left input.old) (C.left input.new) (S.written output.old)
+        (beyond (F.state files.new).files (L.state lines.new) whole) (notes_said result.faults.items)
+        ⊎ IsOutcome (texts_of words.now) (C.left input.old) (C.left input.new) (S.written output.old)
         (S.written output.new) (beyond (F.state files.old).files (L.state lines.old) whole)
         (beyond (F.state files.new).files (L.state lines.new) whole) result.status result.machine
         (notes_said result.faults.items) }
@@ -92,7 +93,8 @@ pub fn simulate<U: Unit, C: Source, S: Sink, F: Files, L: Lines>(
         → (whole : List LineAnswer) → IsFirst (record_in (L.state lines.new).told) whole
         → SaysNoMore L.tells (texts_of words.now) (C.left input.old) (C.left input.new) (S.written output.old)
         (S.written output.new) (beyond (F.state files.old).files (L.state lines.old) whole)
-        (beyond (F.state files.new).files (L.state lines.new) whole) (notes_said result.faults.items) ⊎ IsCutShort (texts_of words.now) (C.left input.old) (C.left input.new) (S.written output.old)
+        (beyond (F.state files.new).files (L.state lines.new) whole) (notes_said result.faults.items)
+        ⊎ IsCutShort (texts_of words.now) (C.left input.old) (C.left input.new) (S.written output.old)
         (S.written output.new) (beyond (F.state files.old).files (L.state lines.old) whole)
         (beyond (F.state files.new).files (L.state lines.new) whole) result.machine
         (notes_said result.faults.items) }
@@ -104,7 +106,8 @@ pub fn simulate<U: Unit, C: Source, S: Sink, F: Files, L: Lines>(
         → (whole : List LineAnswer) → IsFirst (record_in (L.state lines.new).told) whole
         → SaysNoMore L.tells (texts_of words.now) (C.left input.old) (C.left input.new) (S.written output.old)
         (S.written output.new) (beyond (F.state files.old).files (L.state lines.old) whole)
-        (beyond (F.state files.new).files (L.state lines.new) whole) [] ⊎ IsComplete (texts_of words.now) (C.left input.old) (C.left input.new) (S.written output.old)
+        (beyond (F.state files.new).files (L.state lines.new) whole) []
+        ⊎ IsComplete (texts_of words.now) (C.left input.old) (C.left input.new) (S.written output.old)
         (S.written output.new) (beyond (F.state files.old).files (L.state lines.old) whole)
         (beyond (F.state files.new).files (L.state lines.new) whole) result.status result.machine }
     ensures resumed { InputTells (texts_of words.now) C.tells → ProgramTold F.tells L.tells (texts_of words.now)
@@ -113,7 +116,8 @@ pub fn simulate<U: Unit, C: Source, S: Sink, F: Files, L: Lines>(
         → (whole : List LineAnswer) → IsFirst (record_in (L.state lines.new).told) whole
         → SaysNoMore L.tells (texts_of words.now) (C.left input.old) (C.left input.new) (S.written output.old)
         (S.written output.new) (beyond (F.state files.old).files (L.state lines.old) whole)
-        (beyond (F.state files.new).files (L.state lines.new) whole) (notes_said result.faults.items) ⊎ ResumesSaved (texts_of words.now) (C.left input.old) (C.left input.new) (S.written output.old)
+        (beyond (F.state files.new).files (L.state lines.new) whole) (notes_said result.faults.items)
+        ⊎ ResumesSaved (texts_of words.now) (C.left input.old) (C.left input.new) (S.written output.old)
         (S.written output.new) (beyond (F.state files.old).files (L.state lines.old) whole)
         (beyond (F.state files.new).files (L.state lines.new) whole) result.status result.machine
         (notes_said result.faults.items) }
@@ -275,12 +279,14 @@ fn run_session<U: Unit, C: Source, S: Sink, F: Files, L: Lines>(
         (λ finish watch now. (opening.now.reads ≡ true → IsTrue C.tells)
         → CourseTold F.tells L.tells (λ whole notes. beginning session
         (beyond (F.state files.old).files (L.state lines.old) whole) opening.now (C.left input.old) notes)
-        → IsTrue S.tells → (whole : List LineAnswer) → IsFirst (record_in (L.state lines.new).told) whole → SessionSaysNoMore
+        → IsTrue S.tells → (whole : List LineAnswer) → IsFirst (record_in (L.state lines.new).told) whole
+        → SessionSaysNoMore
         (λ recorded notes. beginning session (beyond (F.state files.old).files (L.state lines.old) recorded)
         opening.now (C.left input.old) notes) L.tells whole (C.left input.new)
         (heard_output (S.written output.old) (L.state lines.old).sent)
         (heard_output (S.written output.new) (L.state lines.new).sent)
-        (notes_said session.notes) (notes_said result.faults.items) ⊎ Performed
+        (notes_said session.notes) (notes_said result.faults.items)
+        ⊎ Performed
         (λ notes. beginning session (beyond (F.state files.old).files (L.state lines.old) whole) opening.now
         (C.left input.old) notes) finish
         (seen (beside watch session.keys (F.state files.new).files (L.state lines.new)) whole now) (C.left input.new)

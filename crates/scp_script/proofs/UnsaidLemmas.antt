@@ -123,15 +123,15 @@ pub turned : (start : List LineAnswer → List Note → Session) (tells : Bool) 
     → ((w : List LineAnswer) → IsFirst (record_in mid.told) w → ComesSoFar (start w) (session_of s (beyond files mid w) l left) before printed notes notes')
     → ((w : List LineAnswer) → IsFirst (record_in now.told) w → Stepped (session_of s (beyond files mid w) l left) GoesOn (session_of t (beyond files' now w) l' left') printed after notes' notes'')
     → SaidUpTo start tells now left' before after notes notes''
-      ⊎ (InStep (attached_files t.machine) files'
-      × ((w : List LineAnswer) → IsFirst (record_in now.told) w → ComesSoFar (start w) (λ n. rested (session_of t (beyond files' now w) l' left' n)) before after notes notes''))
+    ⊎ (InStep (attached_files t.machine) files'
+    × ((w : List LineAnswer) → IsFirst (record_in now.told) w → ComesSoFar (start w) (λ n. rested (session_of t (beyond files' now w) l' left' n)) before after notes notes''))
 turned start tells s t files files' mid now l l' left left' before printed after notes notes' notes'' later stays step comes steps =
     by-test (disk_alone (live_in s (beyond files mid [])) (live_in t (beyond files' now []))) refl
   where
     by-test : (b : Bool) → disk_alone (live_in s (beyond files mid [])) (live_in t (beyond files' now [])) ≡ b
         → SaidUpTo start tells now left' before after notes notes''
-          ⊎ (InStep (attached_files t.machine) files'
-          × ((w : List LineAnswer) → IsFirst (record_in now.told) w → ComesSoFar (start w) (λ n. rested (session_of t (beyond files' now w) l' left' n)) before after notes notes''))
+        ⊎ (InStep (attached_files t.machine) files'
+        × ((w : List LineAnswer) → IsFirst (record_in now.told) w → ComesSoFar (start w) (λ n. rested (session_of t (beyond files' now w) l' left' n)) before after notes notes''))
     by-test true alone = inr (
       stays step mid now [] [] alone,
       λ w begins. further (start w) (session_of s (beyond files mid w) l left) (session_of t (beyond files' now w) l' left') before printed after notes notes' notes''

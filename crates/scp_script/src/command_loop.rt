@@ -66,8 +66,9 @@ pub fn next_line<U: Unit, C: Source, F: Files, L: Lines, S: Sink>(
         → NextTold F.tells L.tells (session_of session.old
         (beyond (F.state files.old).files (L.state ports.old) whole) lines.old (C.left input.old) [])
         → L.state ports.new ≡ L.state ports.old }
-    ensures step { (lines.old.reads ≡ true → IsTrue C.tells) → (IsTrue L.tells → AreApart (L.state ports.old) session.old.machine.lines) → (whole : List LineAnswer)
-        → NextTold F.tells L.tells (session_of session.old
+    ensures step { (lines.old.reads ≡ true → IsTrue C.tells)
+        → (IsTrue L.tells → AreApart (L.state ports.old) session.old.machine.lines)
+        → (whole : List LineAnswer) → NextTold F.tells L.tells (session_of session.old
         (beyond (F.state files.old).files (L.state ports.old) whole) lines.old (C.left input.old) [])
         → StaysWhereAlone session.old session.new (F.state files.old).files (F.state files.new).files }
     ensures grows { Grows S.tells (S.written out.old) (S.written out.new) }
@@ -136,8 +137,8 @@ fn action<U: Unit, F: Files, L: Lines, S: Sink>(
         → NextTold F.tells L.tells (session_of session.old
         (beyond (F.state files.old).files (L.state ports.old) whole) lines.old input [])
         → L.state ports.new ≡ L.state ports.old }
-    ensures step { (IsTrue L.tells → AreApart (L.state ports.old) session.old.machine.lines) → (whole : List LineAnswer) (input : List ℕ)
-        → NextTold F.tells L.tells (session_of session.old
+    ensures step { (IsTrue L.tells → AreApart (L.state ports.old) session.old.machine.lines)
+        → (whole : List LineAnswer) (input : List ℕ) → NextTold F.tells L.tells (session_of session.old
         (beyond (F.state files.old).files (L.state ports.old) whole) lines.old input [])
         → StaysWhereAlone session.old session.new (F.state files.old).files (F.state files.new).files }
     ensures grows { Grows S.tells (S.written out.old) (S.written out.new) }
@@ -216,8 +217,9 @@ fn input_line<U: Unit, C: Source, F: Files, L: Lines, S: Sink>(
         → NextTold F.tells L.tells (session_of session.old
         (beyond (F.state files.old).files (L.state ports.old) whole) lines.old (C.left input.old) [])
         → L.state ports.new ≡ L.state ports.old }
-    ensures step { IsTrue C.tells → (IsTrue L.tells → AreApart (L.state ports.old) session.old.machine.lines) → (whole : List LineAnswer)
-        → NextTold F.tells L.tells (session_of session.old
+    ensures step { IsTrue C.tells
+        → (IsTrue L.tells → AreApart (L.state ports.old) session.old.machine.lines)
+        → (whole : List LineAnswer) → NextTold F.tells L.tells (session_of session.old
         (beyond (F.state files.old).files (L.state ports.old) whole) lines.old (C.left input.old) [])
         → StaysWhereAlone session.old session.new (F.state files.old).files (F.state files.new).files }
     ensures grows { Grows S.tells (S.written out.old) (S.written out.new) }
@@ -307,8 +309,8 @@ fn script_line<U: Unit, F: Files, L: Lines, S: Sink>(
         (beyond (F.state files.old).files (L.state ports.old) whole)
         (record lines.old { texts = record lines.old.texts { scripts = script ∷ lines.old.texts.scripts } }) input [])
         → L.state ports.new ≡ L.state ports.old }
-    ensures step { (IsTrue L.tells → AreApart (L.state ports.old) session.old.machine.lines) → (whole : List LineAnswer) (input : List ℕ)
-        → NextTold F.tells L.tells (session_of session.old
+    ensures step { (IsTrue L.tells → AreApart (L.state ports.old) session.old.machine.lines)
+        → (whole : List LineAnswer) (input : List ℕ) → NextTold F.tells L.tells (session_of session.old
         (beyond (F.state files.old).files (L.state ports.old) whole)
         (record lines.old { texts = record lines.old.texts { scripts = script ∷ lines.old.texts.scripts } }) input [])
         → StaysWhereAlone session.old session.new (F.state files.old).files (F.state files.new).files }

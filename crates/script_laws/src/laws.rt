@@ -35,8 +35,8 @@ pub fn ended_scripts_do_not_matter()
 {}
 
 /// The law of what every session is: behind a text it still is, what is made comes in states of its kind, and so does
-/// the end. What the disk holds of its file is what is in it, where nothing is to be written back, as long as the session
-/// goes on, which it does only where nothing else has changed that file.
+/// the end. What the disk holds of its file is what is in it, where nothing is to be written back, as long as the
+/// session goes on, which it does only where nothing else has changed that file.
 pub fn sessions_stay_valid()
     ensures { SessionsStayValid }
 {}
