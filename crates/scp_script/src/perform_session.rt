@@ -77,12 +77,13 @@ pub fn perform<U: Unit, C: Source, F: Files, L: Lines, S: Sink>(
         → (IsTrue L.tells → AreApart (L.state lines.old) session.old.machine.lines) → IsTrue S.tells
         → InStep (attached_files session.old.machine) (F.state files.old).files
         → (whole : List LineAnswer) → IsFirst (record_in (L.state lines.new).told) whole
-        → SaysNoMore (λ recorded notes. beginning session.old (beyond (F.state files.old).files (L.state lines.old) recorded)
-        opening.now (C.left input.old) notes) L.tells whole (C.left input.new)
+        → SaysNoMore (λ recorded notes. beginning session.old
+        (beyond (F.state files.old).files (L.state lines.old) recorded) opening.now (C.left input.old) notes) L.tells
+        whole (C.left input.new)
         (output (S.written out.old) (L.state lines.old).sent) (output (S.written out.new) (L.state lines.new).sent)
         (notes_said session.old.notes) (notes_said session.new.notes)
-        ⊎ Performed (λ notes. beginning session.old (beyond (F.state files.old).files (L.state lines.old) whole) opening.now
-        (C.left input.old) notes) result
+        ⊎ Performed (λ notes. beginning session.old (beyond (F.state files.old).files (L.state lines.old) whole)
+        opening.now (C.left input.old) notes) result
         (live_in session.new (beyond (F.state files.new).files (L.state lines.new) whole)) (C.left input.new)
         (output (S.written out.old) (L.state lines.old).sent) (output (S.written out.new) (L.state lines.new).sent)
         (notes_said session.old.notes) (notes_said session.new.notes) }
