@@ -1,5 +1,5 @@
 -- How many openings of a text, and of a session, have failed without a note, and how many ids they have given.
-use Rattle.std.proofs.Common.{◌≡◌, ℕ, ◌+◌, ◌-◌, ◌<◌, ◌≤◌, ◌&&◌, not, Bool, true, false, List, [], ◌++◌, Err, Option, Some, None, refl, ap, sym, ◌∙◌, subst, arith, append_assoc, append-nil, if◌then◌else◌}
+use Rattle.std.proofs.Common.{◌≡◌, ℕ, ◌+◌, ◌-◌, ◌<◌, ◌≤◌, ◌&&◌, not, Bool, true, false, List, [], ◌++◌, Err, Option, Some, None, refl, ap, sym, ◌∙◌, subst, arith, append_assoc, append-nil}
 use Rattle.file_traits.specs.State.{FileState}
 use Rattle.whole_files.specs.Claims.{raised_by}
 use Rattle.unit_files.specs.declared.modes.AttachMode.{AttachMode}

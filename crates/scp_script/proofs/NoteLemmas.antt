@@ -30,7 +30,7 @@ use Rattle.session_texts.specs.Lines.{InputEnds, LineComes, arrival, line_reads}
 use Rattle.session_texts.specs.Reading.{AreRead}
 use Rattle.session_texts.specs.Scripts.{Script, still_open, cost_of_line, text_of_line, echo_text, past_line}
 use Rattle.session_texts.specs.Actions.{texts_of, texts_behind}
-use Rattle.scp_script.specs.Session.{State, Session, spent_more, Upcoming, Ends, Comes, Step, flushes_in, flushes_next, Course, prompt_text, asking, behind_line, behind_script_line, behind_action, upcoming, emptied_in, input_end, closed, text_reply, course, trace}
+use Rattle.scp_script.specs.Session.{State, Session, spent_more, Upcoming, Ends, Comes, Step, flushes_in, flushes_next, Course, prompt_text, asking, behind_line, behind_script_line, behind_action, upcoming, emptied_in, closed, text_reply, course, trace}
 use Rattle.scp_script.specs.Loop.{session_of, IsAnswer, AreClosings, AreShort, IsShort, Answers, AnswerCounts, HasExitStatus, status_of, finish_of, EndsAs, Finishes, MayFollow, MayCome, StopsShort, RunsOut, Progresses, ProgressCause, Stepped, KeptInLine}
 use Rattle.scp_script.proofs.SessionLemmas.{arrival-paid, upcoming-input, upcoming-script, asking-script, upcoming-action, asking-action, trace-is, closing, asking-still, upcoming-still, step-still, course-still}
 use Rattle.scp_script.proofs.LineLemmas.{none-read, comes-reads, asking-text, asking-reads, IsBehind, answered, input_finish, input-ended}

@@ -1,7 +1,7 @@
 -- A session of which no more is said from some text on, since something beside the disk has changed the disk's file.
-use Rattle.std.proofs.Common.{◌≡◌, ◌⊎◌, inl, inr, ℕ, ◌+◌, Bool, IsTrue, true, false, List, [], ◌++◌, drop, refl, ap, sym, ◌∙◌, subst, arith, append_assoc, append-nil}
+use Rattle.std.proofs.Common.{◌≡◌, ◌⊎◌, inl, inr, ℕ, ◌+◌, Bool, IsTrue, true, false, List, [], ◌++◌, drop, refl, ap, sym, ◌∙◌, arith, append_assoc, append-nil}
 use Rattle.std.proofs.lemmas.List.{drop-drop}
-use Rattle.observations.specs.Observations.{Observation, text_of, reads_of, sent_of}
+use Rattle.observations.specs.Observations.{text_of, reads_of, sent_of}
 use Rattle.observations.proofs.MadeLemmas.{text_of-append, reads_of-append, sent_of-append}
 use Rattle.host_lines.specs.Traffic.{Answer as LineAnswer}
 use Rattle.host_lines.specs.Told.{IsFirst, record_in}
@@ -18,7 +18,7 @@ use Rattle.command_session.specs.Live.{CommandState, beyond, live_in}
 use Rattle.command_session.specs.DiskFile.{disk_alone, StaysWhereAlone}
 use Rattle.scp_script.specs.declared.progress.CommandLoop.{CommandLoop}
 use Rattle.scp_script.specs.declared.progress.Progress.TheVariants.{GoesOn}
-use Rattle.scp_script.specs.Session.{State, Session, state_of, rested, going_on, step}
+use Rattle.scp_script.specs.Session.{Session, state_of, rested, going_on, step}
 use Rattle.scp_script.specs.Loop.{session_of, MayFollow, Stepped, TakesFirst}
 use Rattle.scp_script.specs.Perform.{SaysUpTo, SaysNoMore}
 use Rattle.scp_script.proofs.NoteLemmas.{none-follow}
