@@ -14,4 +14,6 @@ mod real_files;
 #[cfg(test)]
 mod real_lines;
 #[cfg(test)]
+mod terminal;
+#[cfg(test)]
 mod writer_sink;

@@ -28,6 +28,8 @@ mod piecewise;
 #[cfg(test)]
 mod streams;
 #[cfg(test)]
+mod tapes;
+#[cfg(test)]
 mod texts;
 #[cfg(test)]
 mod units;

@@ -8,6 +8,8 @@ mod bursts;
 #[cfg(test)]
 mod calls;
 #[cfg(test)]
+mod devices;
+#[cfg(test)]
 mod dumps;
 #[cfg(test)]
 mod instructions;
@@ -25,5 +27,7 @@ mod numbers;
 mod rows;
 #[cfg(test)]
 mod tables;
+#[cfg(test)]
+mod units;
 #[cfg(test)]
 mod words;

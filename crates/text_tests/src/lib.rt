@@ -4,9 +4,13 @@
 #[cfg(test)]
 mod arguments;
 #[cfg(test)]
+mod assembler;
+#[cfg(test)]
 mod checked;
 #[cfg(test)]
 mod filling;
+#[cfg(test)]
+mod grammar;
 #[cfg(test)]
 mod labels;
 #[cfg(test)]
@@ -17,5 +21,7 @@ mod quoted;
 mod symbols;
 #[cfg(test)]
 mod texts;
+#[cfg(test)]
+mod watched;
 #[cfg(test)]
 mod words;

@@ -1,0 +1,4 @@
+// The assembler.
+mod checked;
+mod sizes;
+mod sources;
