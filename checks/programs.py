@@ -31,10 +31,11 @@ def must_exist(arguments, alone=False):
             sys.exit(f"{program}: not found{hint}")
 
 
-def run_nova(program, lines, seconds=600):
-    """What our program prints for these command lines, given on standard input."""
+def run_nova(program, lines, seconds=600, under=()):
+    """What our program prints for these command lines, given on standard input. It runs under
+    the command of these words, if there are any."""
     text = "\n".join(lines + ["EXIT", ""])
-    done = subprocess.run([program, "-q", "-l", str(ANY_NUMBER)], input=text,
+    done = subprocess.run([*under, program, "-q", "-l", str(ANY_NUMBER)], input=text,
                           capture_output=True, text=True, timeout=seconds)
     if done.returncode != 0:
         sys.exit(f"{program} ended with status {done.returncode}: {done.stdout[-300:]}{done.stderr[-300:]}")

@@ -175,7 +175,7 @@ idle-lines (line ∷ lines) all nobody = (idle-line line all.0 nobody.0, idle-li
 
 erased-same : (m : MachineState) → IsProgramMachine m → erased m ≡ m
 erased-same m is =
-    λ i. record m { slots = is.numbers i; marks = sym is.marks i; lines = sym is.lines i }
+    λ i. record m { slots = is.numbers i; aside = sym is.aside i; lines = sym is.lines i }
 
 widths : (s : Live) (files : List NamedBytes) → ValidLive s → AllByRecursion FitsPart (saved_files files (attached_in s.machine) file_places) → HasWidths (saved_among files s)
 unfolding saved_machine saved_watch

@@ -11,17 +11,17 @@ use Rattle.unit_trait.specs.declared.kind.UnitName.{UnitName}
 use Rattle.unit_trait.specs.Kinds.{units_of}
 use Rattle.unit_files.specs.Attachments.{Attachment, Held, attachments_of, attachment_at, with_attachment, file_units, kind_place, file_place, is_disk}
 use Rattle.unit_files.specs.Buffer.{Buffer, no_buffer, disk_unit}
-use Rattle.unit_files.specs.Acts.{Failure, closing_said, flush_failure, flush_said, buffer_flushed, Attached, DetachSaid, HadNone, StillHeld, Detached, detach_said_of, detached, buffer_by, buffer_left}
+use Rattle.unit_files.specs.Acts.{Failure, closing_said, flush_failure, flushed_as, flush_said, buffer_flushed, Attached, DetachSaid, HadNone, StillHeld, Detached, detach_said_of, detached, buffer_by, buffer_left}
 use Rattle.file_commands.specs.Notes.{CommandNote, failure_now}
 use Rattle.file_commands.specs.declared.note.Subject.TheVariants as subject
 use Rattle.file_commands.specs.AllUnits.{Filed, Emptied, emptied_as, said_in, written_in, without_file, emptied}
 use Rattle.nova_machine.specs.Machine.{MachineState}
 use Rattle.nova_machine.specs.Seen.{Seen, attached_in}
-use Rattle.nova_machine.specs.Valid.{CopyIsFile, DiskIsItsFile}
+use Rattle.nova_machine.specs.Valid.{CopyIsFile, DiskIsItsFile, KeepsFile}
 use Rattle.scp_parser.specs.Command.{IsDrive}
-use Rattle.command_session.specs.Live.{Live}
+use Rattle.command_session.specs.Live.{Live, with_machine}
 use Rattle.command_session.specs.DiskFile.{is_by_disk, is_left_by_disk, is_by_disk_at, disk_alone}
-use Rattle.command_laws.specs.Valid.{CopyFollows}
+use Rattle.command_laws.specs.Valid.{CopyFollows, CopyStays}
 use Rattle.command_session.proofs.CloseLemmas.{AreOthers}
 
 -- ---- a disk without a file holds nothing
@@ -46,6 +46,44 @@ pub holds-flushed : (fault : Option Failure) (attached : List (Option Attachment
     → HoldsAt attached (buffer_flushed (flush_said fault disk_unit (attachment_at attached disk_unit) disk) disk_unit disk)
 holds-flushed fault attached disk is = λ none.
     ap (λ (o : Option Attachment). buffer_flushed (flush_said fault disk_unit o disk) disk_unit disk) none ∙ is none
+
+-- ---- the file is as it was
+
+copy-kept : (a : Option Attachment) (disk : Buffer) (old new : List NamedBytes) → CopyIsFile a disk old → (disk.written ≡ false → KeepsFile a old new) → CopyIsFile a disk new
+copy-kept None disk old new is keeps = is
+copy-kept (Some a) disk old new is keeps = λ none. is none ∙ sym (keeps none)
+
+-- the same attachments and the same copy
+pub copy-same : {flushes : Bool} (live after : Live) → after.machine.slots ≡ live.machine.slots → after.machine.disk ≡ live.machine.disk → CopyStays flushes live after
+copy-same live after slots disk is clean follows =
+    subst (λ (s : List (Option Held)). CopyIsFile (attachment_at (attachments_of s) disk_unit) after.machine.disk after.files) (sym slots)
+    (subst (λ (d : Buffer). CopyIsFile (attachment_at (attached_in live.machine) disk_unit) d after.files) (sym disk)
+    (copy-kept (attachment_at (attached_in live.machine) disk_unit) live.machine.disk live.files after.files is (λ none. follows (ap (λ (d : Buffer). d.written) disk ∙ none) none)))
+
+pub copy-from : (live : Live) (m : MachineState) → m.slots ≡ live.machine.slots → m.disk ≡ live.machine.disk → DiskIsItsFile live → DiskIsItsFile (with_machine live m)
+copy-from live m slots disk is =
+    subst (λ (s : List (Option Held)). CopyIsFile (attachment_at (attachments_of s) disk_unit) m.disk live.files) (sym slots)
+    (subst (λ (d : Buffer). CopyIsFile (attachment_at (attached_in live.machine) disk_unit) d live.files) (sym disk) is)
+
+-- what begins with another machine, with the same attachments and the same copy
+pub stays-from : {flushes : Bool} (live after : Live) (m : MachineState) → m.slots ≡ live.machine.slots → m.disk ≡ live.machine.disk → CopyStays flushes (with_machine live m) after
+    → CopyStays flushes live after
+stays-from live after m slots disk stays = λ is clean follows.
+    let written : m.disk.written ≡ live.machine.disk.written = ap (λ (d : Buffer). d.written) disk in
+    stays (copy-from live m slots disk is) (λ flushes. written ∙ clean flushes)
+    (λ none was. subst (λ (s : List (Option Held)). KeepsFile (attachment_at (attachments_of s) disk_unit) live.files after.files) (sym slots)
+    (follows none (sym written ∙ was)))
+
+-- there was nothing to write back
+pub copy-clean : (fault : Option Failure) (a : Option Attachment) (disk : Buffer) (old new : List NamedBytes) → CopyIsFile a disk old → disk.written ≡ false
+    → ((buffer_flushed (flush_said fault disk_unit a disk) disk_unit disk).written ≡ false → KeepsFile a old new)
+    → CopyIsFile a (buffer_flushed (flush_said fault disk_unit a disk) disk_unit disk) new
+copy-clean fault None disk old new is clean keeps = is
+copy-clean fault (Some a) disk old new is clean keeps = λ none. bytes (flush_failure fault disk_unit disk) ∙ is clean ∙ sym (keeps none)
+  where
+    bytes : (f : Option Failure) → (buffer_flushed (flushed_as f) disk_unit disk).bytes ≡ disk.bytes
+    bytes (Some f) = refl
+    bytes None = refl
 
 -- ---- the disk alone has changed its file
 
@@ -133,6 +171,32 @@ holds-detached unit fault attached disk is = by-disk (is_disk unit.kind) refl
     by-disk true at = λ none. refl
     by-disk false at = λ none. is (sym (elsewhere unit attached None at) ∙ none)
 
+pub copy-attached : (unit : UnitName) (count : ℕ) (a : Attachment) (attached : List (Option Attachment)) (disk : Buffer) (old files : List NamedBytes) → IsDrive unit → 0 < length attached
+    → CopyIsFile (attachment_at attached disk_unit) disk old
+    → ((buffer_by (Attached count) unit (bytes_of files a.name) disk).written ≡ false → disk.written ≡ false → KeepsFile (attachment_at attached disk_unit) old files)
+    → CopyIsFile (attachment_at (with_attachment attached unit (Some a)) disk_unit) (buffer_by (Attached count) unit (bytes_of files a.name) disk) files
+copy-attached unit count a attached disk old files drive some is keeps = by-disk (is_disk unit.kind) refl keeps
+  where
+    by-disk : (b : Bool) → is_disk unit.kind ≡ b
+        → ((if b then record { bytes = bytes_of files a.name; written = false } else disk).written ≡ false → disk.written ≡ false → KeepsFile (attachment_at attached disk_unit) old files)
+        → CopyIsFile (attachment_at (with_attachment attached unit (Some a)) disk_unit) (if b then record { bytes = bytes_of files a.name; written = false } else disk) files
+    by-disk true at keeps =
+        subst (λ (o : Option Attachment). CopyIsFile o (record { bytes = bytes_of files a.name; written = false }) files) (sym (here unit attached (Some a) drive some at)) (λ none. refl)
+    by-disk false at keeps =
+        subst (λ (o : Option Attachment). CopyIsFile o disk files) (sym (elsewhere unit attached (Some a) at)) (copy-kept (attachment_at attached disk_unit) disk old files is (λ none. keeps none none))
+
+pub copy-detached : (unit : UnitName) (fault : Option Failure) (attached : List (Option Attachment)) (disk : Buffer) (old files : List NamedBytes) → IsDrive unit → 0 < length attached
+    → CopyIsFile (attachment_at attached disk_unit) disk old
+    → ((buffer_left (Detached fault) unit disk).written ≡ false → disk.written ≡ false → is_disk unit.kind ≡ false → KeepsFile (attachment_at attached disk_unit) old files)
+    → CopyIsFile (attachment_at (detached unit attached) disk_unit) (buffer_left (Detached fault) unit disk) files
+copy-detached unit fault attached disk old files drive some is keeps = by-disk (is_disk unit.kind) refl keeps
+  where
+    by-disk : (b : Bool) → is_disk unit.kind ≡ b → ((if b then no_buffer else disk).written ≡ false → disk.written ≡ false → is_disk unit.kind ≡ false → KeepsFile (attachment_at attached disk_unit) old files)
+        → CopyIsFile (attachment_at (detached unit attached) disk_unit) (if b then no_buffer else disk) files
+    by-disk true at keeps = subst (λ (o : Option Attachment). CopyIsFile o no_buffer files) (sym (here unit attached None drive some at)) refl
+    by-disk false at keeps =
+        subst (λ (o : Option Attachment). CopyIsFile o disk files) (sym (elsewhere unit attached None at)) (copy-kept (attachment_at attached disk_unit) disk old files is (λ none. keeps none none at))
+
 -- ---- all units lose their files
 
 -- the disk has no file, and holds nothing
@@ -198,3 +262,12 @@ pub holds-emptied : (time : ℕ) (us : List UnitName) (s : Filed) (notes : List 
     → (emptied time (disk_unit ∷ us) s notes).kept ≡ None
     → HoldsAt (emptied time (disk_unit ∷ us) s notes).left.attached (emptied time (disk_unit ∷ us) s notes).left.disk
 holds-emptied time us s notes others some is kept = λ none. (first-nothing time us s notes others some is kept).disk
+
+pub copy-emptied : (time : ℕ) (us : List UnitName) (s : Filed) (notes : List CommandNote) → AreOthers us → 0 < length s.attached → CopyIsFile (attachment_at s.attached disk_unit) s.disk s.files
+    → (emptied time (disk_unit ∷ us) s notes).kept ≡ None
+    → CopyIsFile (attachment_at (emptied time (disk_unit ∷ us) s notes).left.attached disk_unit) (emptied time (disk_unit ∷ us) s notes).left.disk (emptied time (disk_unit ∷ us) s notes).left.files
+copy-emptied time us s notes others some is kept =
+    let holds : HoldsAt s.attached s.disk = λ none. subst (λ (o : Option Attachment). CopyIsFile o s.disk s.files) none is in
+    let nothing = first-nothing time us s notes others some holds kept in
+    let left = (emptied time (disk_unit ∷ us) s notes).left in
+    subst (λ (o : Option Attachment). CopyIsFile o left.disk left.files) (sym nothing.none) nothing.disk

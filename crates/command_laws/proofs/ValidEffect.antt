@@ -85,7 +85,7 @@ use Rattle.scp_commands.specs.Effect.{effect}
 use Rattle.command_session.specs.Nature.{nature}
 use Rattle.command_session.specs.Doing.{Does}
 use Rattle.command_session.specs.Remains.{flushed_machine, flushed, Remains}
-use Rattle.command_laws.specs.Valid.{IsProgramMachine, ValidLive, GivesBytes, IsValidReply, CommandsKeepStates}
+use Rattle.command_laws.specs.Valid.{IsProgramMachine, ValidLive, GivesBytes, CopyStays, IsValidReply, CommandsKeepStates}
 use Rattle.host_commands.proofs.FileKinds.{positioned-kinds}
 use Rattle.command_session.proofs.SeenLemmas.{attached-with}
 use Rattle.command_session.proofs.CloseLemmas.{none-other}
@@ -94,6 +94,7 @@ use Rattle.command_laws.proofs.ValidMachines.{sized-valid, reset-valid, reset-le
 use Rattle.command_laws.proofs.ValidMachines.{deposited-marks, reset-marks, started-marks, loaded-marks}
 use Rattle.command_laws.proofs.ValidFiles.{Fits, attached-files, flushed-files, attached-fits, attached-valid, detached-valid, filed-valid, names-seen, IsFiled, emptied-filed}
 use Rattle.command_laws.proofs.ValidCopies.{HoldsAt, HoldsNone, holds-same, holds-copy, holds-flushed, holds-attached, holds-detached, holds-emptied, copy-tested, copy-new, copy-gone}
+use Rattle.command_laws.proofs.ValidCopies.{copy-same, stays-from, copy-clean, copy-attached, copy-detached, copy-emptied}
 
 attached-count : (m : MachineState) → length (attached_in m) ≡ length m.slots
 attached-count m = length-map m.slots (λ slot. option_map (λ (h : Held). h.attachment) slot)
@@ -102,18 +103,23 @@ numberless-count : (m : MachineState) → length (numberless (attached_in m)) �
 numberless-count m = length-map (attached_in m) (λ slot. option_map (λ (a : Attachment). record { file = 0; attachment = a }) slot) ∙ attached-count m
 
 -- what holds of a reply to a command that was given in that state
-pub record Stands (live : Live) (reply : Reply) : Type 0 where
+pub record StandsBy (flushes : Bool) (live : Live) (reply : Reply) : Type 0 where
   pub valid : IsValidReply reply
   pub holds : HoldsNone live.machine → HoldsNone reply.after.live.machine
+  pub stays : CopyStays flushes live reply.after.live
+
+-- the same of one that flushes nothing before its work
+abbrev pub Stands : Live → Reply → Type 0
+Stands live reply = StandsBy false live reply
 
 -- ---- states
 
 -- a machine with the same kinds of units, and one of this program where what is attached to it and its lines are the same
-program-machine : (m m' : MachineState) → IsProgramMachine m → kinds_of m'.units ≡ kinds_of m.units → m'.slots ≡ m.slots → m'.marks ≡ m.marks → m'.lines ≡ m.lines → IsProgramMachine m'
-program-machine m m' is kinds slots marks lines = record {
+program-machine : (m m' : MachineState) → IsProgramMachine m → kinds_of m'.units ≡ kinds_of m.units → m'.slots ≡ m.slots → m'.aside ≡ m.aside → m'.lines ≡ m.lines → IsProgramMachine m'
+program-machine m m' is kinds slots aside lines = record {
   units = kinds ∙ is.units;
   numbers = ap (λ (l : List (Option Held)). map unnumbered l) slots ∙ is.numbers ∙ sym slots;
-  marks = marks ∙ is.marks;
+  aside = aside ∙ is.aside;
   lines = lines ∙ is.lines;
 }
 
@@ -123,12 +129,12 @@ numberless-numbers [] = refl
 numberless-numbers (None ∷ attached) = ap (λ (l : List (Option Held)). None ∷ l) (numberless-numbers attached)
 numberless-numbers (Some a ∷ attached) = ap (λ (l : List (Option Held)). Some (record { file = 0; attachment = a }) ∷ l) (numberless-numbers attached)
 
-program-filed : (m m' : MachineState) (attached : List (Option Attachment)) → IsProgramMachine m → kinds_of m'.units ≡ kinds_of m.units → m'.slots ≡ numberless attached → m'.marks ≡ m.marks → m'.lines ≡ m.lines
+program-filed : (m m' : MachineState) (attached : List (Option Attachment)) → IsProgramMachine m → kinds_of m'.units ≡ kinds_of m.units → m'.slots ≡ numberless attached → m'.aside ≡ m.aside → m'.lines ≡ m.lines
     → IsProgramMachine m'
-program-filed m m' attached is kinds slots marks lines = record {
+program-filed m m' attached is kinds slots aside lines = record {
   units = kinds ∙ is.units;
   numbers = ap (λ (l : List (Option Held)). map unnumbered l) slots ∙ numberless-numbers attached ∙ sym slots;
-  marks = marks ∙ is.marks;
+  aside = aside ∙ is.aside;
   lines = lines ∙ is.lines;
 }
 
@@ -151,9 +157,9 @@ changed-live live m w files is machine taken time own watch all = record {
   line = is.line;
 }
 
-machine-live : (live : Live) (m : MachineState) → ValidLive live → ValidMachine m → LeavesRest live.machine m → m.marks ≡ live.machine.marks → ValidLive (with_machine live m)
-machine-live live m is machine rest marks =
-    changed-live live m live.watch live.files is machine rest.taken rest.time (program-machine live.machine m is.machine rest.kinds rest.slots marks rest.lines) is.valid.watch is.valid.files
+machine-live : (live : Live) (m : MachineState) → ValidLive live → ValidMachine m → LeavesRest live.machine m → m.aside ≡ live.machine.aside → ValidLive (with_machine live m)
+machine-live live m is machine rest aside =
+    changed-live live m live.watch live.files is machine rest.taken rest.time (program-machine live.machine m is.machine rest.kinds rest.slots aside rest.lines) is.valid.watch is.valid.files
 
 pub watch-live : (live : Live) (w : WatchState) → ValidLive live → ValidWatch w → ValidLive (record live { watch = w })
 watch-live live w is watch = changed-live live live.machine w live.files is is.valid.machine refl refl is.machine watch is.valid.files
@@ -261,7 +267,7 @@ stands-if true live x y first second = first refl
 stands-if false live x y first second = second refl
 
 stands-goes : (before live : Live) → ValidLive live → live.machine.slots ≡ before.machine.slots → live.machine.disk ≡ before.machine.disk → Stands before (goes live)
-stands-goes before live is slots disk = record { valid = record { after = is; made = λ at h. absurd h; script = tt }; holds = holds-same before.machine live.machine slots disk }
+stands-goes before live is slots disk = record { valid = record { after = is; made = λ at h. absurd h; script = tt }; holds = holds-same before.machine live.machine slots disk; stays = copy-same before live slots disk }
 
 stands-says : (text : List ℕ) (live : Live) → ValidLive live → Stands live (says text live)
 stands-says text live is = record {
@@ -271,14 +277,15 @@ stands-says text live is = record {
     script = tt;
   };
   holds = λ is. is;
+  stays = copy-same live live refl refl;
 }
 
 pub stands-refused : (fault : CommandFault) (live : Live) → ValidLive live → Stands live (refused fault live)
-stands-refused fault live is = record { valid = record { after = is; made = λ at h. absurd h; script = tt }; holds = λ is. is }
+stands-refused fault live is = record { valid = record { after = is; made = λ at h. absurd h; script = tt }; holds = λ is. is; stays = copy-same live live refl refl }
 
 -- nothing is printed and nothing changes
 stands-answers : (answer : Answer) (used : ℕ) (live : Live) → ValidLive live → GivesBytes answer → Stands live (record { made = []; answer = answer; after = standing used live })
-stands-answers answer used live is gives = record { valid = record { after = is; made = λ at h. absurd h; script = gives }; holds = λ is. is }
+stands-answers answer used live is gives = record { valid = record { after = is; made = λ at h. absurd h; script = gives }; holds = λ is. is; stays = copy-same live live refl refl }
 
 -- only files change
 stands-files : (answer : Answer) (used : ℕ) (live : Live) (files : List NamedBytes) → ValidLive live → AreFiles files → GivesBytes answer
@@ -286,6 +293,7 @@ stands-files : (answer : Answer) (used : ℕ) (live : Live) (files : List NamedB
 stands-files answer used live files is all gives = record {
   valid = record { after = changed-live live live.machine live.watch files is is.valid.machine refl refl is.machine is.valid.watch all; made = λ at h. absurd h; script = gives };
   holds = λ is. is;
+  stays = copy-same live (record live { files = files }) refl refl;
 }
 
 -- ---- runs
@@ -322,13 +330,16 @@ stands-ran notes step count live is =
           let left : DiskIsItsFile p.after =
           (keeps.copy copy).1 (λ unwritten. subst (λ (o : Option Attachment). KeepsFile o live.files p.after.files) (sym was) tt) in
           holds-copy p.after left none;
+      stays = λ copy clean follows.
+          let keeps = runs-stay-valid.run_copy note step count live is.valid in
+          (keeps.copy copy).1 (λ none. follows none (ap (λ (d : Buffer). d.written) (sym (keeps.written none)) ∙ none));
     }
   where
     shaped : (s t : Live) → ValidLive s → Valid t → t.machine.time ≤ last_time → StaysAs s t → ValidLive t
     shaped s t is valid time shape = record {
       valid = valid;
       time = time;
-      machine = program-machine s.machine t.machine is.machine shape.kinds shape.slots shape.marks shape.own;
+      machine = program-machine s.machine t.machine is.machine shape.kinds shape.slots shape.aside shape.own;
       line = shape.count ∙ is.line;
     }
 
@@ -337,6 +348,7 @@ stands-from : (live : Live) (m : MachineState) (reply : Reply) → LeavesRest li
 stands-from live m reply rest stands = record {
   valid = stands.valid;
   holds = λ is. stands.holds (holds-same live.machine m rest.slots rest.disk is);
+  stays = stays-from live reply.after.live m rest.slots rest.disk stands.stays;
 }
 
 stands-run_from : (limit : ℕ) (notes : List CommandNote) (resets : Bool) (address : Option ℕ) (live : Live) → ValidLive live → Stands live (run_from limit notes resets address live)
@@ -422,6 +434,9 @@ stands-attach_with fault option unit name live drive named is =
           holds = λ is_none.
               subst (λ (l : List (Option Attachment)). HoldsAt l m.disk) (sym (attached-with live.machine (with_attachment (attached_in live.machine) unit (Some a))))
               (holds-attached unit count a (bytes_of files name) (attached_in live.machine) live.machine.disk drive some is_none);
+          stays = λ copy clean follows.
+              subst (λ (l : List (Option Attachment)). CopyIsFile (attachment_at l disk_unit) m.disk files) (sym (attached-with live.machine (with_attachment (attached_in live.machine) unit (Some a))))
+              (copy-attached unit count a (attached_in live.machine) live.machine.disk live.files files drive some copy follows);
         }
     by-said UnitHasFile fits = kept _ _ tt
     by-said OnlyWrites fits = kept _ _ tt
@@ -465,6 +480,9 @@ stands-detach_with fault unit live drive is = by-said (detach_said fault unit (a
           holds = λ is_none.
               subst (λ (l : List (Option Attachment)). HoldsAt l m.disk) (sym (attached-with live.machine (detached unit (attached_in live.machine))))
               (holds-detached unit failure (attached_in live.machine) live.machine.disk is_none);
+          stays = λ copy clean follows.
+              subst (λ (l : List (Option Attachment)). CopyIsFile (attachment_at l disk_unit) m.disk files) (sym (attached-with live.machine (detached unit (attached_in live.machine))))
+              (copy-detached unit failure (attached_in live.machine) live.machine.disk live.files files drive some copy (λ none was other. follows none was));
         }
 
 stands-detach : (notes : List CommandNote) (live : Live) (unit : UnitName) → IsDrive unit → ValidLive live → Stands live (detach_reply notes live unit)
@@ -491,6 +509,7 @@ stands-listen_with said port live low valid is = by said.answer
     by Failed = record {
       valid = record { after = ahead-live live said.ahead is valid; made = λ at h. absurd h; script = tt };
       holds = λ is. is;
+      stays = copy-same live (record live { ahead = said.ahead }) refl refl;
     }
     by other = record {
       valid = record {
@@ -500,6 +519,7 @@ stands-listen_with said port live low valid is = by said.answer
         script = tt;
       };
       holds = λ is. is;
+      stays = copy-same live (record live { lines = ported (Some port) live.lines; ahead = said.ahead }) refl refl;
     }
 
 stands-attach_port : (live : Live) (port : ℕ) → ValidLive live → Stands live (attach_port_reply live port)
@@ -560,6 +580,9 @@ stands-emptied next notes live gives is = by-keeper e.kept refl
           holds = λ is_none.
               subst (λ (l : List (Option Attachment)). HoldsAt l e.left.disk) (sym (attached-with live.machine e.left.attached))
               (holds-emptied live.machine.time _ (filed_in live) notes none-other some is_none kept);
+          stays = λ copy clean follows.
+              subst (λ (l : List (Option Attachment)). CopyIsFile (attachment_at l disk_unit) e.left.disk e.left.files) (sym (attached-with live.machine e.left.attached))
+              (copy-emptied live.machine.time _ (filed_in live) notes none-other some copy kept);
         }
 
 stands-detach_where : (notes : List CommandNote) (live : Live) (unit : Option UnitName) → IsKept (request.Detach unit) → ValidLive live → Stands live (detach_one_or_all notes live unit)
@@ -716,6 +739,7 @@ stands-load notes live name is =
         script = gives-load live.machine read.0;
       };
       holds = holds-same live.machine m rest.slots rest.disk;
+      stays = copy-same live (with_machine live m) rest.slots rest.disk;
     }
 
 gives-written : (said : WriteSaid) → GivesBytes (dump_answer said)
@@ -754,7 +778,7 @@ flushed-with claim live is =
 
 -- and then other files came
 stands-flushed : (claim : Option (UnitName × Failure)) (answer : Answer) (used : ℕ) (live : Live) (files : List NamedBytes) → ValidLive live → AreFiles files → GivesBytes answer
-    → Stands live (record { made = []; answer = answer; after = standing used (record (flushed_with claim live) { files = files }) })
+    → StandsBy true live (record { made = []; answer = answer; after = standing used (record (flushed_with claim live) { files = files }) })
 stands-flushed claim answer used live files is all gives =
     let flushed = flushed_with claim live in
     let there = flushed-with claim live is in
@@ -765,13 +789,16 @@ stands-flushed claim answer used live files is all gives =
         script = gives;
       };
       holds = holds-flushed (at_unit disk_unit claim) (attached_in live.machine) live.machine.disk;
+      stays = λ copy clean follows.
+          copy-clean (at_unit disk_unit claim) (attachment_at (attached_in live.machine) disk_unit) live.machine.disk live.files files copy (clean refl)
+          (λ none. follows none (clean refl));
     }
 
 gives-saved : (said : WriteSaid) → GivesBytes (wrote_answer subject.State said)
 gives-saved AllWritten = tt
 gives-saved WriteFailed = tt
 
-stands-save : (notes : List CommandNote) (live : Live) (name : List ℕ) → ValidLive live → Stands live (save_reply notes live name)
+stands-save : (notes : List CommandNote) (live : Live) (name : List ℕ) → ValidLive live → StandsBy true live (save_reply notes live name)
 unfolding save_reply
 stands-save notes live name is = by-claim (first_unsaved claim (attached_in live.machine) live.machine.disk live.files)
   where
@@ -784,7 +811,7 @@ stands-save notes live name is = by-claim (first_unsaved claim (attached_in live
     there : ValidLive flushed
     there = flushed-with claim live is
 
-    by-claim : (o : Option (UnitName × Failure)) → Stands live (save_by o notes name flushed)
+    by-claim : (o : Option (UnitName × Failure)) → StandsBy true live (save_by o notes name flushed)
     by-claim (Some call) = stands-flushed claim (Err (FileFailed (subject.Unit call.0))) 1 live flushed.files is there.valid.files tt
     by-claim None =
         let calls = write_calls subject.State flushed.machine.time notes in
@@ -814,7 +841,7 @@ put-back bytes s live all read is =
       machine = record {
         units = put-back-is-valid.units s live valid;
         numbers = numberless-numbers (with_all no_attachments s.files);
-        marks = refl;
+        aside = refl;
         lines = refl;
       };
       line = many-from s.port live.lines ∙ is.line;
@@ -826,6 +853,7 @@ stands-put_back : (used : ℕ) (s : State) (live : Live) (answer : Answer) (ahea
 stands-put_back used s live answer ahead valid gives back = record {
   valid = record { after = ahead-live (put_back s live) ahead back valid; made = λ at h. absurd h; script = gives };
   holds = λ is_none. holds-copy (put_back s live) (put-back-is-valid.disk s live);
+  stays = λ copy clean follows. put-back-is-valid.disk s live;
 }
 
 stands-listened_back : (said : Replied) (used : ℕ) (s : State) (live : Live) → ValidAhead said.ahead → ValidLive (put_back s live) → ValidLive live → Stands live (listened_back said used s live)
@@ -839,6 +867,7 @@ stands-listened_back said used s live valid back is = by said.answer
     by Failed = record {
       valid = record { after = ahead-live live said.ahead is valid; made = λ at h. absurd h; script = tt };
       holds = λ is. is;
+      stays = copy-same live (record live { ahead = said.ahead }) refl refl;
     }
     by other = stands-put_back used s live (Ok Go) said.ahead valid tt back
 
@@ -871,7 +900,7 @@ stands-restore notes live force name is =
 
 -- ---- all commands
 
-pub stands-effect : (limit : ℕ) (notes : List CommandNote) (live : Live) (r : Request) → ValidLive live → IsKept r → IsOfBytes r → Stands live (effect limit notes live r)
+pub stands-effect : (limit : ℕ) (notes : List CommandNote) (live : Live) (r : Request) → ValidLive live → IsKept r → IsOfBytes r → StandsBy (nature r).flushes live (effect limit notes live r)
 unfolding effect
 stands-effect limit notes live request.Nothing is kept bytes = stands-goes live live is refl refl
 stands-effect limit notes live (request.Examine l) is kept bytes = stands-examine live l is
@@ -990,6 +1019,7 @@ commands-keep-states = record {
   valid = λ limit notes live r is kept bytes. (stands-effect limit notes live r is kept bytes).valid;
   disk = λ limit notes live r is kept bytes.
       copy-tested live (effect limit notes live r).after.live (stands-effect limit notes live r is kept bytes).holds;
+  stays = λ limit notes live r is kept bytes. (stands-effect limit notes live r is kept bytes).stays;
   attached = attached-anew;
   detached = detached-anew;
   left = left-valid;

@@ -190,11 +190,11 @@ written-files ((call, done) ∷ failing) name piece files bytes all = files-made
 
 -- ---- the marks of the disk's pages stay
 
-value-marks : (m : MachineState) (place : Place) (v : ℕ) → (with_value v m place).marks ≡ m.marks
+value-marks : (m : MachineState) (place : Place) (v : ℕ) → (with_value v m place).aside ≡ m.aside
 value-marks m (Cell a) v = refl
 value-marks m (Register r) v = by-register r
   where
-    by-register : (r : CpuReg) → (with_register m r v).marks ≡ m.marks
+    by-register : (r : CpuReg) → (with_register m r v).aside ≡ m.aside
     by-register Ac0 = refl
     by-register Ac1 = refl
     by-register Ac2 = refl
@@ -209,32 +209,32 @@ value-marks m (Register r) v = by-register r
     by-register Size = refl
 value-marks m (UnitRegister kind i) v = refl
 
-filled-marks : (m : MachineState) (v : ℕ) (places : List Place) → (filled v m places).marks ≡ m.marks
+filled-marks : (m : MachineState) (v : ℕ) (places : List Place) → (filled v m places).aside ≡ m.aside
 unfolding filled
 filled-marks m v [] = refl
 filled-marks m v (p ∷ more) = filled-marks (with_value v m p) v more ∙ value-marks m p v
 
-pub deposited-marks : (m : MachineState) (l : Listing) (v : ℕ) → (deposited m l v).marks ≡ m.marks
+pub deposited-marks : (m : MachineState) (l : Listing) (v : ℕ) → (deposited m l v).aside ≡ m.aside
 unfolding deposited
 deposited-marks m l v = filled-marks m v (all_places (shape_of m) l.device l.items)
 
-pub reset-marks : (m : MachineState) → (reset_machine m).marks ≡ m.marks
+pub reset-marks : (m : MachineState) → (reset_machine m).aside ≡ m.aside
 unfolding reset_machine reset_devices
 reset-marks m = refl
 
-starting-marks : (address : Option ℕ) (m : MachineState) → (starting_at address m).marks ≡ m.marks
+starting-marks : (address : Option ℕ) (m : MachineState) → (starting_at address m).aside ≡ m.aside
 starting-marks None m = refl
 starting-marks (Some a) m = refl
 
-pub started-marks : (resets : Bool) (address : Option ℕ) (m : MachineState) → (starting_at address (reset_where resets m)).marks ≡ m.marks
+pub started-marks : (resets : Bool) (address : Option ℕ) (m : MachineState) → (starting_at address (reset_where resets m)).aside ≡ m.aside
 started-marks true address m = starting-marks address (reset_machine m) ∙ reset-marks m
 started-marks false address m = starting-marks address m
 
-tape-marks : (r : Result Tape LoadFault) (m : MachineState) → (tape_machine r m).marks ≡ m.marks
+tape-marks : (r : Result Tape LoadFault) (m : MachineState) → (tape_machine r m).aside ≡ m.aside
 tape-marks (Ok says) m = starting-marks says.start (with_memory m (put_all m.processor.memory says.stores))
 tape-marks (Err fault) m = refl
 
-pub loaded-marks : (said : WholeSaid) (m : MachineState) → (loaded_machine said m).marks ≡ m.marks
+pub loaded-marks : (said : WholeSaid) (m : MachineState) → (loaded_machine said m).aside ≡ m.aside
 loaded-marks (WholeIs bytes) m = tape-marks (tape_in m bytes) m
 loaded-marks NotThere m = refl
 loaded-marks TooLong m = refl

@@ -55,10 +55,10 @@ at-most a b is = elim (leb_tells a b) [ inl low ↦ low.1 | inr high ↦ absurd 
 
 -- A file that was the copy outside the marked pages, and has at each place the byte that it had or that of the copy, is so
 -- too.
-both-outside : (copy : List ℕ) (marks : List Bool) (old now : List ℕ)
-    → ((page k : ℕ) → k < page_bytes → get_or marks page false ≡ false → slice_get old (page * page_bytes + k) ≡ slice_get copy (page * page_bytes + k))
-    → length old ≤ length now → length now ≤ length copy → is_of_both now old copy ≡ true → IsCopyOutside copy marks now
-both-outside copy marks old now was grown short is = record {
+both-outside : (copy : List ℕ) (aside : List Bool) (old now : List ℕ)
+    → ((page k : ℕ) → k < page_bytes → get_or aside page false ≡ false → slice_get old (page * page_bytes + k) ≡ slice_get copy (page * page_bytes + k))
+    → length old ≤ length now → length now ≤ length copy → is_of_both now old copy ≡ true → IsCopyOutside copy aside now
+both-outside copy aside old now was grown short is = record {
   short = short;
   same = λ page k low not. elim (cases_lt (page * page_bytes + k) (length now)) [
     | inl within ↦ elim (of-both now old copy (page * page_bytes + k) is within) [
@@ -75,37 +75,37 @@ both-outside copy marks old now was grown short is = record {
 -- ---- the disk's file
 
 module _ (a : Attachment) (old new : AttachedFiles) (covers : MarksCover old new) (files files' : List NamedBytes)
-    (step : IsInStep a old.disk old.marks files) where
-  was-outside : (page k : ℕ) → k < page_bytes → get_or new.marks page false ≡ false
+    (step : IsInStep a old.disk old.aside files) where
+  was-outside : (page k : ℕ) → k < page_bytes → get_or new.aside page false ≡ false
       → slice_get (bytes_of files a.name) (page * page_bytes + k) ≡ slice_get new.disk.bytes (page * page_bytes + k)
   was-outside page k low not = step.outside.same page k low (covers.kept page not) ∙ covers.same page k low not
 
   by-written : (now : List ℕ) (b : Bool)
       → (if b then nat_le (length (bytes_of files a.name)) (length now) && nat_le (length now) (length new.disk.bytes) && is_of_both now (bytes_of files a.name) new.disk.bytes
       else bytes_eq now new.disk.bytes) ≡ true
-      → IsCopyOutside new.disk.bytes new.marks now
+      → IsCopyOutside new.disk.bytes new.aside now
   by-written now true is =
       let old_bytes : List ℕ = bytes_of files a.name in
       let first = both (nat_le (length old_bytes) (length now) && nat_le (length now) (length new.disk.bytes)) (is_of_both now old_bytes new.disk.bytes) is in
       let lengths = both (nat_le (length old_bytes) (length now)) (nat_le (length now) (length new.disk.bytes)) first.0 in
-      both-outside new.disk.bytes new.marks old_bytes now was-outside (at-most _ _ lengths.0) (at-most _ _ lengths.1) first.1
+      both-outside new.disk.bytes new.aside old_bytes now was-outside (at-most _ _ lengths.0) (at-most _ _ lengths.1) first.1
   by-written now false is =
-      subst (λ (bytes : List ℕ). IsCopyOutside new.disk.bytes new.marks bytes) (sym ((bytes_eq-Decides now new.disk.bytes).0 is))
-      (copy-same new.disk.bytes new.marks)
+      subst (λ (bytes : List ℕ). IsCopyOutside new.disk.bytes new.aside bytes) (sym ((bytes_eq-Decides now new.disk.bytes).0 is))
+      (copy-same new.disk.bytes new.aside)
 
   by-found : (found : Option (List ℕ)) → find_file files' a.name ≡ found
-      → is_left_by_disk new.disk (bytes_of files a.name) found ≡ true → IsInStep a new.disk new.marks files'
+      → is_left_by_disk new.disk (bytes_of files a.name) found ≡ true → IsInStep a new.disk new.aside files'
   by-found None is left = absurd (false≢true left)
   by-found (Some now) is left = record {
     there = subst IsSome (sym is) refl;
     outside =
-        subst (λ (o : Option (List ℕ)). IsCopyOutside new.disk.bytes new.marks (unwrap_or o [])) (sym is)
+        subst (λ (o : Option (List ℕ)). IsCopyOutside new.disk.bytes new.aside (unwrap_or o [])) (sym is)
         (by-written now new.disk.written left);
     unmarked = λ none. (covers.unwritten none).1 ∙ step.unmarked (covers.unwritten none).0;
   }
 
 by-file : (o : Option Attachment) (old new : AttachedFiles) (covers : MarksCover old new) (files files' : List NamedBytes)
-    → StepAt o old.disk old.marks files → is_by_disk_at o o new.disk files files' ≡ true → StepAt o new.disk new.marks files'
+    → StepAt o old.disk old.aside files → is_by_disk_at o o new.disk files files' ≡ true → StepAt o new.disk new.aside files'
 by-file None old new covers files files' step is = tt
 by-file (Some a) old new covers files files' step is =
     by-found a old new covers files files' step (find_file files' a.name) refl is
@@ -123,15 +123,15 @@ step-alone old new files files' same covers = λ step lines lines' whole whole' 
     ap (λ (l : List (Option Attachment)). attachment_at l disk_unit) (attached-erased new.machine) ∙ same in
     let is : is_by_disk_at was was new.machine.disk files files' ≡ true =
     (λ i. is_by_disk_at (sym seen_old i) (sym seen_new i) new.machine.disk files files') ∙ alone in
-    subst (λ (o : Option Attachment). StepAt o new.machine.disk new.machine.marks files') (sym same)
+    subst (λ (o : Option Attachment). StepAt o new.machine.disk new.machine.aside files') (sym same)
     (by-file was (attached_files old.machine) (attached_files new.machine) covers files files' step is)
 
 -- what changes nothing of it but for the files
 pub step-beside : (old new : CommandState) (files files' : List NamedBytes)
     → attachment_at (attached_in new.machine) disk_unit ≡ attachment_at (attached_in old.machine) disk_unit
-    → new.machine.disk ≡ old.machine.disk → new.machine.marks ≡ old.machine.marks → StaysWhereAlone old new files files'
-step-beside old new files files' same copy marks =
-    step-alone old new files files' same (covers-same (attached_files old.machine) (attached_files new.machine) copy marks)
+    → new.machine.disk ≡ old.machine.disk → new.machine.aside ≡ old.machine.aside → StaysWhereAlone old new files files'
+step-beside old new files files' same copy aside =
+    step-alone old new files files' same (covers-same (attached_files old.machine) (attached_files new.machine) copy aside)
 
 -- what changes none of it
 pub step-unchanged : (old new : CommandState) (files files' : List NamedBytes)

@@ -1,6 +1,6 @@
 -- What a command can answer, whatever files and lines tell: a fault that comes by the tables of a session comes exactly where
 -- these have it, and no answer is one of another command.
-use Rattle.std.specs.Prelude.{◌≡◌, ℕ, Bool, true, false, IsTrue, Option, Some, None, unwrap_or, Ok, Err, if◌then◌else◌}
+use Rattle.std.specs.Prelude.{◌≡◌, ℕ, Bool, true, false, IsTrue, Option, Some, None, is_none, unwrap_or, Ok, Err, if◌then◌else◌}
 use Rattle.unit_trait.specs.declared.kind.UnitName.{UnitName}
 use Rattle.unit_files.specs.Attachments.{attachment_at, is_disk}
 use Rattle.unit_files.specs.Acts.{AttachSaid, UnitHasFile, OnlyWrites, refused_first}
@@ -46,6 +46,11 @@ attach_refusal m option unit =
     if lacks_unit m unit then Some NoSuchName
     else first_fault (refused_first (attachment_at (attached_in m) unit) unit (mode_of option))
 
+-- that of DETACH of a unit
+abbrev pub detach_refusal : MachineState → UnitName → Option CommandFault
+detach_refusal m unit =
+    if lacks_unit m unit then Some NoSuchName else if is_none (attachment_at (attached_in m) unit) then Some NotAttached else None
+
 -- of a command whose number, or whose addresses, are within their limits or not
 abbrev pub out_of_range : Bool → Option CommandFault
 out_of_range fits = if fits then None else Some OutOfRange
@@ -60,6 +65,11 @@ IsByTables (Some fault) answer = answer ≡ Err fault
 IsByTables None (Err fault) = is_by_tables fault ≡ false
 IsByTables None (Ok next) = Unit {0}
 
+-- DETACH of a unit; what the second teletype's port has to do with it, its line says
+abbrev pub detach_tables : Bool → MachineState → UnitName → Answer → Type 0
+detach_tables true m unit answer = Unit {0}
+detach_tables false m unit answer = IsByTables (detach_refusal m unit) answer
+
 -- The answers of the commands that work on files, or run. What the second teletype's port has to do with it, its line says;
 -- the other commands are told whatever files and lines are.
 abbrev pub AnswersByTables : MachineState → Request → Answer → Type 0
@@ -69,6 +79,7 @@ AnswersByTables m (GoRequest address) answer = IsByTables (out_of_range (address
 AnswersByTables m Cont answer = IsByTables None answer
 AnswersByTables m (Step count) answer = IsByTables (out_of_range (count_fits (unwrap_or count 1))) answer
 AnswersByTables m (Detach None) answer = IsByTables None answer
+AnswersByTables m (Detach (Some unit)) answer = detach_tables (is_terminal unit) m unit answer
 AnswersByTables m (ExitRequest status) answer = IsByTables (out_of_range (status_fits status)) answer
 AnswersByTables m (DoRequest echo strict name arguments) answer = IsByTables None answer
 AnswersByTables m (Load name) answer = IsByTables None answer
@@ -198,13 +209,20 @@ OfRestore force (Err (Changed unit)) = force ≡ false
 OfRestore force (Err OutOfMemory) = Unit {0}
 OfRestore force (Err fault) = IsTrue (is_by_tables fault)
 
-abbrev pub of_unit : Bool → Answer → Type 0
-of_unit true answer = OfLine answer
-of_unit false answer = Unit {0}
+-- a unit loses its file: the disk may keep its own
+abbrev pub OfUnit : UnitName → Answer → Type 0
+OfUnit unit (Ok Go) = Unit {0}
+OfUnit unit (Ok next) = ⊥
+OfUnit unit (Err (FileFailed who)) = IsOf (subject.Unit unit) who
+OfUnit unit (Err fault) = IsTrue (is_by_tables fault)
+
+abbrev pub of_unit : Bool → UnitName → Answer → Type 0
+of_unit true unit answer = OfLine answer
+of_unit false unit answer = OfUnit unit answer
 
 abbrev pub OfDetach : Option UnitName → Answer → Type 0
 OfDetach None answer = OfDetachAll answer
-OfDetach (Some unit) answer = of_unit (is_terminal unit) answer
+OfDetach (Some unit) answer = of_unit (is_terminal unit) unit answer
 
 -- what these commands can answer; of the others it is told, whatever files and lines are
 abbrev pub CanAnswer : Request → Answer → Type 0

@@ -36,11 +36,11 @@ DoWorks (Ok next) old new = IsOpened old new
 DoWorks (Err fault) old new = Unit {0}
 
 -- The unit has that file, POS is the place where the unit goes on in one of some length, and all else of the machine is as it
--- was, but for the disk's copy, where the unit is the disk. Of the marks of its pages nothing is said.
+-- was, but for the disk's copy, where the unit is the disk. Of what is kept beside that nothing is said.
 pub record IsAttached (option : ℕ) (unit : UnitName) (name : List ℕ) (m m' : MachineState) : Type 0 where
   pub length : ℕ
   pub attached : attached_in m' ≡ attached_by (Attached length) (mode_of option) unit name (attached_in m)
-  pub rest : m' ≡ record m { slots = m'.slots; disk = m'.disk; marks = m'.marks; units = positioned unit (first_place unit.kind length) m.units }
+  pub rest : m' ≡ record m { slots = m'.slots; disk = m'.disk; aside = m'.aside; units = positioned unit (first_place unit.kind length) m.units }
   pub copy : is_disk unit.kind ≡ false → m'.disk ≡ m.disk
 
 abbrev pub AttachWorks : ℕ → UnitName → List ℕ → Answer → MachineState → MachineState → Type 0

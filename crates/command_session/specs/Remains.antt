@@ -3,7 +3,7 @@
 use Rattle.std.specs.Prelude.{◌≡◌, ◌⊎◌, Bool, true, false, List, Option, None, Ok, Err}
 use Rattle.file_traits.specs.Lists.{NamedBytes}
 use Rattle.unit_files.specs.Buffer.{disk_unit}
-use Rattle.unit_files.specs.Pages.{no_marks}
+use Rattle.unit_files.specs.Aside.{nothing_aside}
 use Rattle.unit_files.specs.InStep.{InStep}
 use Rattle.file_commands.specs.declared.note.Subject.{Subject}
 use Rattle.nova_machine.specs.Machine.{MachineState, attached_files}
@@ -20,11 +20,11 @@ flushed_machine m = record m { disk = record m.disk { written = false } }
 abbrev pub flushed : Live → Live
 flushed live = record live { machine = flushed_machine live.machine; files = flushed_files None disk_unit live }
 
--- A machine that is left by a command that flushes or does not: behind a flush no page of the copy is marked, which no
--- definition speaks of.
+-- A machine that is left by a command that flushes or does not: behind a flush nothing is kept beside the copy, of which no
+-- definition speaks.
 abbrev pub MachineRemains : Bool → MachineState → MachineState → Type 0
 MachineRemains false old new = new ≡ old
-MachineRemains true old new = (new ≡ old) ⊎ (new ≡ record (flushed_machine old) { marks = no_marks })
+MachineRemains true old new = (new ≡ old) ⊎ (new ≡ record (flushed_machine old) { aside = nothing_aside })
 
 -- the disk's file is in step with the copy of it, where a command flushes
 abbrev pub StepsIf : Bool → MachineState → List NamedBytes → Type 0

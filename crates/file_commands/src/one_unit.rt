@@ -50,7 +50,7 @@ pub fn attach_unit<F: Files>(
     ensures unwritten { IfOk result (λ n. is_disk unit.kind ≡ true → attached.new.disk.written ≡ false) }
     ensures step { IsTrue F.tells → OnOk result (is_disk unit.kind ≡ true → InStep attached.new (F.state files.new).files) }
     ensures other { is_disk unit.kind ≡ false → attached.new.disk ≡ attached.old.disk }
-    ensures other_marks { is_disk unit.kind ≡ false → attached.new.marks ≡ attached.old.marks }
+    ensures other_marks { is_disk unit.kind ≡ false → attached.new.aside ≡ attached.old.aside }
     ensures refused { OnErr result (attached.new ≡ attached.old) }
     ensures files { IsTrue F.tells → IfSome (said_of_attach result) (λ said. (F.state files.new).files
         ≡ attach_files (failure_now stamp.time (subjects.Unit unit) (own_of stamp.time (fault_of_attach result))) mode unit
@@ -98,7 +98,7 @@ pub fn detach_unit<F: Files>(
     ensures attached { attachments_of attached.new.slots
         ≡ detached_by (said_of_detach result) unit (attachments_of attached.old.slots) }
     ensures disk { attached.new.disk ≡ buffer_left (said_of_detach result) unit attached.old.disk }
-    ensures marks { attached.new.marks ≡ marks_left (said_of_detach result) unit attached.old.marks }
+    ensures marks { attached.new.aside ≡ marks_left (said_of_detach result) unit attached.old.aside }
     ensures step { InStep attached.old (F.state files.old).files → InStep attached.new (F.state files.new).files }
     ensures refused { OnErr result (attached.new ≡ attached.old) }
     ensures files { InStep attached.old (F.state files.old).files → (F.state files.new).files ≡ flush_files

@@ -1,5 +1,5 @@
 -- A unit's file is closed: what DETACH comes to.
-use Rattle.std.proofs.Common.{◌≡◌, ℕ, ◌&&◌, Bool, true, false, List, [], ◌++◌, length, Option, Some, None, IfSome, Result, Ok, Err, OnErr}
+use Rattle.std.proofs.Common.{◌≡◌, ℕ, ◌&&◌, Bool, true, false, List, [], ◌++◌, length, Option, Some, None, is_none, IfSome, Result, Ok, Err, OnErr}
 use Rattle.std.proofs.Common.{refl, ap, sym, ◌∙◌, subst, if◌then◌else◌, append-nil, arith}
 use Rattle.std.proofs.lemmas.Bool.{eq-eqb}
 use Rattle.std.proofs.Math.Path.{subst₃}
@@ -33,10 +33,11 @@ use Rattle.nova_machine.specs.Seen.{erased, seen, beside, attached_in}
 use Rattle.nova_machine.specs.Comes.{Output}
 use Rattle.nova_machine.proofs.Hearing.{heard-nothing}
 use Rattle.command_session.specs.declared.next.Next.TheVariants.{Go}
-use Rattle.command_session.specs.declared.fault.CommandFault.TheVariants.{NoSuchName, FileFailed}
+use Rattle.command_session.specs.declared.fault.CommandFault.TheVariants.{NoSuchName, NotAttached, FileFailed}
 use Rattle.command_session.specs.Live.{Live, standing}
 use Rattle.command_session.specs.Reply.{Answer, Reply, refused}
 use Rattle.command_session.specs.FaultText.{detach_fault}
+use Rattle.command_session.specs.Answers.{IsByTables, OfUnit}
 use Rattle.command_session.specs.FileEffects.{lacks_unit, detach_answer, detach_used, detached_machine, flushed_files, detach_with, detach_reply}
 use Rattle.command_session.specs.Doing.{Does, Did, ComeBehind, FileCause, is_missing, Keeps}
 use Rattle.command_session.proofs.SeenLemmas.{attached-erased, attached-with, seen-with, same-with}
@@ -78,6 +79,33 @@ had-none fault unit (Some a) disk is = by-failure (flush_failure fault unit disk
     by-failure : (f : Option Failure) → HadNone ≡ closing_said f fault → Some a ≡ None
     by-failure None is = absurd (cc)
     by-failure (Some f) is = absurd (cc)
+
+-- ---- the answer, whatever files tell
+
+-- a unit that has a file is refused by no table
+pub detach-tables : (claim : Option Failure) (unit : UnitName) (attached : List (Option Attachment)) (disk : Buffer) (r : Result (Option UnitFault) DetachFault)
+    → said_of_detach r ≡ detach_said claim unit attached disk
+    → IsByTables (if is_none (attachment_at attached unit) then Some NotAttached else None) (detach_result r)
+detach-tables claim unit attached disk r said = by r (attachment_at attached unit) said
+  where
+    held : (r : Result (Option UnitFault) DetachFault) (f : Option Failure) → said_of_detach r ≡ closing_said f claim → IsByTables None (detach_result r)
+    held (Ok fault) f said = tt
+    held (Err (detach.Failed fault)) f said = refl
+    held (Err detach.NotAttached) None said = absurd (cc)
+    held (Err detach.NotAttached) (Some f) said = absurd (cc)
+
+    by : (r : Result (Option UnitFault) DetachFault) (o : Option Attachment) → said_of_detach r ≡ detach_said_of claim unit o disk
+        → IsByTables (if is_none o then Some NotAttached else None) (detach_result r)
+    by (Ok fault) None said = absurd (cc)
+    by (Err (detach.Failed f)) None said = absurd (cc)
+    by (Err detach.NotAttached) None said = refl
+    by r (Some a) said = held r (flush_failure claim unit disk) said
+
+-- what fails is a call on its own file
+pub detach-can : (unit : UnitName) (r : Result (Option UnitFault) DetachFault) → IfSome (fault_of_detach r) (λ (f : UnitFault). f.unit ≡ unit) → OfUnit unit (detach_result r)
+detach-can unit (Ok fault) own = tt
+detach-can unit (Err detach.NotAttached) own = refl
+detach-can unit (Err (detach.Failed f)) own = ap (λ (u : UnitName). subject.Unit u) own
 
 -- ---- the reply, by what was said
 

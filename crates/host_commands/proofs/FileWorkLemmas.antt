@@ -58,6 +58,6 @@ attached-works option unit name count mode place m m' held left was by attached 
       ∙ ap (λ (x : AttachedFiles). attached_by (Attached count) (mode_of option) unit name (attachments_of x.slots)) was;
   rest =
       is ∙ ap (λ (p : ℕ). record (with_attached_files m left) { units = positioned unit p m.units }) from
-      ∙ ap (λ (x : MachineState). record m { slots = x.slots; disk = x.disk; marks = x.marks; units = positioned unit (first_place unit.kind count) m.units }) (sym is);
+      ∙ ap (λ (x : MachineState). record m { slots = x.slots; disk = x.disk; aside = x.aside; units = positioned unit (first_place unit.kind count) m.units }) (sym is);
   copy = λ none. ap (λ (x : MachineState). x.disk) is ∙ other none ∙ ap (λ (x : AttachedFiles). x.disk) was;
 }

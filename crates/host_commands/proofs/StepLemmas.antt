@@ -28,19 +28,19 @@ other-file attached unit x other =
 pub attached-step : (mode : AttachMode) (unit : UnitName) (name : List ℕ) (count : ℕ) (old new : CommandState) (a held : AttachedFiles) (files files' : List NamedBytes)
     → held ≡ attached_files old.machine → attached_files new.machine ≡ a
     → attachments_of a.slots ≡ attached_by (Attached count) mode unit name (attachments_of held.slots)
-    → (is_disk unit.kind ≡ true → InStep a files') → (is_disk unit.kind ≡ false → a.disk ≡ held.disk) → (is_disk unit.kind ≡ false → a.marks ≡ held.marks)
+    → (is_disk unit.kind ≡ true → InStep a files') → (is_disk unit.kind ≡ false → a.disk ≡ held.disk) → (is_disk unit.kind ≡ false → a.aside ≡ held.aside)
     → StaysWhereAlone old new files files'
-attached-step mode unit name count old new a held files files' was now are of_disk copy marks = elim (cases_Bool (is_disk unit.kind)) [
+attached-step mode unit name count old new a held files files' was now are of_disk copy aside = elim (cases_Bool (is_disk unit.kind)) [
   | inl is ↦ λ step lines lines' whole whole' alone. subst (λ (x : AttachedFiles). InStep x files') (sym now) (of_disk is)
   | inr other ↦
       step-beside old new files files'
       (ap disk-of now ∙ ap (λ (l : List (Option Attachment)). attachment_at l disk_unit) are ∙ other-file (attachments_of held.slots) unit _ other ∙ ap disk-of was)
       (ap (λ (x : AttachedFiles). x.disk) now ∙ copy other ∙ ap (λ (x : AttachedFiles). x.disk) was)
-      (ap (λ (x : AttachedFiles). x.marks) now ∙ marks other ∙ ap (λ (x : AttachedFiles). x.marks) was)
+      (ap (λ (x : AttachedFiles). x.aside) now ∙ aside other ∙ ap (λ (x : AttachedFiles). x.aside) was)
 ]
 
 -- what is attached is as it was, whatever became of files
 pub held-step : (old new : CommandState) (files files' : List NamedBytes) → attached_files new.machine ≡ attached_files old.machine
     → StaysWhereAlone old new files files'
 held-step old new files files' same =
-    step-beside old new files files' (ap disk-of same) (ap (λ (x : AttachedFiles). x.disk) same) (ap (λ (x : AttachedFiles). x.marks) same)
+    step-beside old new files files' (ap disk-of same) (ap (λ (x : AttachedFiles). x.disk) same) (ap (λ (x : AttachedFiles). x.aside) same)

@@ -20,7 +20,7 @@ ghost use Rattle.command_session.specs.FileEffects.{lacks_unit, mode_of, first_p
 ghost use Rattle.command_session.specs.FileEffects.{attach_reply, detach_reply, detach_all_reply, detach_one_or_all};
 ghost use Rattle.scp_parser.specs.Command.{Attach, Detach};
 ghost use Rattle.command_session.specs.Refusals.{IsUnrefused, WasOpened};
-ghost use Rattle.command_session.specs.Answers.{IsByTables, AnswersByTables, OfAttach, OfDetach, OfDetachAll, attach_refusal};
+ghost use Rattle.command_session.specs.Answers.{IsByTables, AnswersByTables, OfAttach, OfDetach, OfUnit, OfDetachAll, attach_refusal, detach_refusal};
 ghost use Rattle.command_session.specs.FileWorks.{AttachWorks};
 ghost use Rattle.command_session.specs.DiskFile.{StaysInStep, StaysWhereAlone};
 ghost use Rattle.command_session.specs.LinesLeft.{LinesLeft};
@@ -183,6 +183,8 @@ fn detach<U: Unit, F: Files>(
         session.new.notes (F.state files.old) (F.state files.new) }
     ensures whose { AreOwn session.old.machine.slots session.new.machine.slots session.old.notes session.new.notes
         (F.state files.old) (F.state files.new) }
+    ensures tables { IsByTables (detach_refusal session.old.machine unit) result }
+    ensures answers { OfUnit unit result }
     ensures own { IsPlain result }
     ensures exit { IsExitAnswer result }
     ensures watch { session.new.watch ≡ session.old.watch }

@@ -31,10 +31,10 @@ use Rattle.nova_machine.proofs.EachService.{each-service, sends-nowhere}
 use Rattle.nova_machine.proofs.Leaves.{Leaves, leaves-fetch, leaves-interrupt}
 
 stays : (s : Seen) → StaysAs s s
-stays s = record { kinds = refl; slots = refl; own = refl; marks = refl; count = refl }
+stays s = record { kinds = refl; slots = refl; own = refl; aside = refl; count = refl }
 
 stays-then : (s t u : Seen) → StaysAs s t → StaysAs t u → StaysAs s u
-stays-then s t u one two = record { kinds = two.kinds ∙ one.kinds; slots = two.slots ∙ one.slots; own = two.own ∙ one.own; marks = two.marks ∙ one.marks; count = two.count ∙ one.count }
+stays-then s t u one two = record { kinds = two.kinds ∙ one.kinds; slots = two.slots ∙ one.slots; own = two.own ∙ one.own; aside = two.aside ∙ one.aside; count = two.count ∙ one.count }
 
 -- nothing is made, or what is made comes where the shape is as it was
 keeps-silent : (stop : Option Stop) (s t : Seen) → StaysAs s t → KeepsShape s (silent stop t)
@@ -83,17 +83,17 @@ lined-count time w lines ahead l there = absurd (cc)
 -- the machine was asked, or was answered
 stays-asked : (u : UnitName) (s : Seen) → StaysAs s (with_machine s (asked u s.machine))
 unfolding asked
-stays-asked u s = record { kinds = after-kinds (code_of u.kind) (Due u.unit) s.machine.units; slots = refl; own = refl; marks = refl; count = refl }
+stays-asked u s = record { kinds = after-kinds (code_of u.kind) (Due u.unit) s.machine.units; slots = refl; own = refl; aside = refl; count = refl }
 
 keeps-replied : (u : UnitName) (stop : Option Stop) (answer : Result Got NoAnswer) (s : Seen) → KeepsShape s (replied u stop answer s)
 unfolding answered
 keeps-replied u stop (Ok g) s =
-    keeps-silent _ s _ (record { kinds = after-kinds (code_of u.kind) (Answered u.unit g) s.machine.units; slots = refl; own = refl; marks = refl; count = refl })
+    keeps-silent _ s _ (record { kinds = after-kinds (code_of u.kind) (Answered u.unit g) s.machine.units; slots = refl; own = refl; aside = refl; count = refl })
 keeps-replied u stop (Err why) s = keeps-silent _ s s (stays s)
 
 stays-hosted : (fault : Option Failure) (u : UnitName) (s : Seen) → StaysAs s (hosted fault u s)
 unfolding hosted asked
-stays-hosted fault u s = record { kinds = after-kinds (code_of u.kind) (Due u.unit) s.machine.units; slots = refl; own = refl; marks = refl; count = refl }
+stays-hosted fault u s = record { kinds = after-kinds (code_of u.kind) (Due u.unit) s.machine.units; slots = refl; own = refl; aside = refl; count = refl }
 
 stays-printing : (w : Want) (s t u : Seen) → StaysAs s t → StandsAt u (prints w t) → StaysAs s u
 stays-printing (want.Console byte) s t u is (inl same) = subst (λ (x : Seen). StaysAs s x) (sym same) is
@@ -113,7 +113,7 @@ stays-lined u l s there = record {
   kinds = after-kinds (code_of u.kind) (Due u.unit) s.machine.units;
   slots = refl;
   own = refl;
-  marks = refl;
+  aside = refl;
   count = lined-count s.machine.time (want_at u s.machine) s.lines s.ahead l there;
 }
 
@@ -125,17 +125,17 @@ keeps-line u l s there =
 
 keeps-service : (fault : Option Failure) (u : UnitName) (s : Seen) → KeepsShape s (service fault u (taken s))
 keeps-service fault u s =
-    keeps-from s (taken s) _ (record { kinds = refl; slots = refl; own = refl; marks = refl; count = refl })
+    keeps-from s (taken s) _ (record { kinds = refl; slots = refl; own = refl; aside = refl; count = refl })
     (each-service (KeepsShape (taken s)) fault u (taken s) (keeps-own fault u (taken s)) (λ l there. keeps-line u l (taken s) there))
 
 -- ---- a turn, and a run
 
 keeps-still : (s : Seen) (t : Turned) → Leaves s.machine t.machine → KeepsShape s (still s t)
-keeps-still s t leaves = keeps-silent _ s _ (record { kinds = leaves.kinds; slots = leaves.slots; own = leaves.lines; marks = leaves.marks; count = refl })
+keeps-still s t leaves = keeps-silent _ s _ (record { kinds = leaves.kinds; slots = leaves.slots; own = leaves.lines; aside = leaves.aside; count = refl })
 
 keeps-tested : (s : Seen) → KeepsShape s (breaks_tested s)
 unfolding breaks_tested
-keeps-tested s = keeps-silent _ s _ (record { kinds = refl; slots = refl; own = refl; marks = refl; count = refl })
+keeps-tested s = keeps-silent _ s _ (record { kinds = refl; slots = refl; own = refl; aside = refl; count = refl })
 
 of-turns : OfTurns KeepsShape
 of-turns = record {

@@ -59,7 +59,7 @@ pub record StaysAs (s t : Seen) : Type 0 where
   pub kinds : kinds_of t.machine.units ≡ kinds_of s.machine.units
   pub slots : t.machine.slots ≡ s.machine.slots
   pub own : t.machine.lines ≡ s.machine.lines
-  pub marks : t.machine.marks ≡ s.machine.marks
+  pub aside : t.machine.aside ≡ s.machine.aside
   pub count : length t.lines ≡ length s.lines
 
 -- so it is behind a part, and where something comes

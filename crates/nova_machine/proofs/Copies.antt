@@ -17,7 +17,7 @@ use Rattle.nova_machine.proofs.Leaves.{Leaves, leaves-fetch, leaves-interrupt}
 -- ---- the attached files stay
 
 leaves-attached : (before after : MachineState) → Leaves before after → attached_files after ≡ attached_files before
-leaves-attached before after leaves = λ i. record { slots = leaves.slots i; disk = leaves.disk i; marks = leaves.marks i }
+leaves-attached before after leaves = λ i. record { slots = leaves.slots i; disk = leaves.disk i; aside = leaves.aside i }
 
 pub fetched-attached : (m : MachineState) → attached_files (fetch m).machine ≡ attached_files m
 fetched-attached m = leaves-attached m (fetch m).machine (leaves-fetch m)
@@ -54,7 +54,7 @@ end-attached burst_end.AtStop period m = refl
 -- ---- marks that cover what has changed
 
 pub covers-still : (old new : AttachedFiles) → new ≡ old → MarksCover old new
-covers-still old new same = covers-same old new (ap (λ (a : AttachedFiles). a.disk) same) (ap (λ (a : AttachedFiles). a.marks) same)
+covers-still old new same = covers-same old new (ap (λ (a : AttachedFiles). a.disk) same) (ap (λ (a : AttachedFiles). a.aside) same)
 
 -- nothing has changed before, or behind
 pub covers-from : (old mid new : AttachedFiles) → mid ≡ old → MarksCover mid new → MarksCover old new

@@ -221,14 +221,14 @@ service-is fault u watch keys files lines whole m =
 
 -- a unit was asked, and this was made of what it wants
 pub record Hosts (u : UnitName) (watch watch' : WatchState) (keys : List (ℕ × ℕ)) (files files' : List NamedBytes) (n h : MachineState) (w : Want) (o : Hosted) : Type 0 where
-  pub machine : h ≡ record (done_by (failure_of_stop (stop_in o)) w u watch keys files n) { marks = h.marks }
+  pub machine : h ≡ record (done_by (failure_of_stop (stop_in o)) w u watch keys files n) { aside = h.aside }
   pub said : IsHosted w (attachment_in n u) files (asks_of watch keys n) watch.expects o
   pub watched : watch' ≡ watch_behind n.time w o watch
   pub changed : files' ≡ files_by (failure_of_stop (stop_in o)) w u files n
 
 -- the same of the machine before it was asked
 record HostsAt (u : UnitName) (watch watch' : WatchState) (keys : List (ℕ × ℕ)) (files files' : List NamedBytes) (m h : MachineState) (o : Hosted) : Type 0 where
-  machine : h ≡ record (done_by (failure_of_stop (stop_in o)) (want_at u m) u watch keys files (asked u m)) { marks = h.marks }
+  machine : h ≡ record (done_by (failure_of_stop (stop_in o)) (want_at u m) u watch keys files (asked u m)) { aside = h.aside }
   said : IsHosted (want_at u m) (attachment_in m u) files (asks_of watch keys m) watch.expects o
   watched : watch' ≡ watch_behind m.time (want_at u m) o watch
   changed : files' ≡ files_by (failure_of_stop (stop_in o)) (want_at u m) u files m
@@ -261,7 +261,7 @@ answered-erased u g watch keys files lines whole stop h = refl
 
 -- a unit got this answer, and the machine has this stop for itself
 comes-answered : (u : UnitName) (watch watch' : WatchState) (keys : List (ℕ × ℕ)) (files files' : List NamedBytes) (lines : LineState) (whole : List Answer) (m h last : MachineState) (g : Got) (stop r : Option Stop) (tells : Bool) (b a : Output)
-    → h ≡ record (done_by None (want_at u m) u watch keys files (asked u m)) { marks = h.marks } → answer_to None (attachment_in m u) files (asks_of watch keys m) (want_at u m) ≡ Ok g
+    → h ≡ record (done_by None (want_at u m) u watch keys files (asked u m)) { aside = h.aside } → answer_to None (attachment_in m u) files (asks_of watch keys m) (want_at u m) ≡ Ok g
     → own_stop (asks_of watch keys m) watch.expects (want_at u m) ≡ stop → watch' ≡ watch_after m.time (want_at u m) watch → files' ≡ files_by None (want_at u m) u files m
     → (IsTrue tells → a.console ≡ b.console ++ bytes_of (want_at u m)) → a.heard ≡ b.heard → IsOwn r → r ≡ first_stop stop (answered u g h).stop → last ≡ (answered u g h).machine
     → Comes (own_service None u (seen (beside watch keys files lines) whole m)) r (seen (beside watch' keys files' lines) whole last) tells b a
@@ -417,7 +417,7 @@ comes-broken u watch watch' keys files files' lines whole m n h w tells b a asks
     let stands : seen (beside watch' keys files' lines) whole h ≡ s =
     ap (λ (x : WatchState). seen (beside x keys files' lines) whole h) at.watched
     ∙ ap (λ (x : List NamedBytes). seen (beside watch keys x lines) whole h) (at.changed ∙ console-files v (attachment_in m u) m.processor.memory files at.said)
-    ∙ ap (λ (x : MachineState). seen (beside watch keys files lines) whole x) (at.machine ∙ ap (λ (x : MachineState). record x { marks = h.marks }) (console-done v u watch keys files (asked u m) at.said)) in
+    ∙ ap (λ (x : MachineState). seen (beside watch keys files lines) whole x) (at.machine ∙ ap (λ (x : MachineState). record x { aside = h.aside }) (console-done v u watch keys files (asked u m) at.said)) in
     let P : Part → Type 0 = λ x. IsBrokenOff x (seen (beside watch' keys files' lines) whole h) tells b a in
     let p = replied u (own_stop (asks_of watch keys m) watch.expects v) (answer_to None (attachment_in m u) files (asks_of watch keys m) v)
     (seen (beside (watch_after m.time v watch) keys (files_by None v u files m) lines) whole (done_by None v u watch keys files (asked u m))) in

@@ -9,7 +9,7 @@ use Rattle.unit_list.specs.Bus.{unit_at, kinds_of}
 use Rattle.unit_list.specs.Reset.{reset_units, reset_events}
 use Rattle.telnet_lines.specs.Line.{LineOf, unconnected}
 use Rattle.unit_files.specs.Attachments.{Held, no_files}
-use Rattle.unit_files.specs.Pages.{no_marks}
+use Rattle.unit_files.specs.Aside.{Aside, nothing_aside}
 use Rattle.unit_files.specs.Buffer.{Buffer, AttachedFiles, no_buffer}
 use Rattle.nova_interrupts.specs.declared.interrupts.Ints.{Ints}
 use Rattle.nova_interrupts.specs.Interrupts.{no_interrupts}
@@ -17,8 +17,8 @@ use Rattle.nova_processor.specs.Processor.{ProcessorState, new_processor}
 
 -- the processor with its memory, the interrupts, the switch register, whether a word to a device that is not there stops
 -- the machine, the units in bus order, their events that wait, the time: how many instructions were executed since the
--- session began; how many keys were taken; what is attached to the units, what the disk holds of its file, and in which pages
--- that was changed, of which nothing that is done depends; and the terminal lines, line 0 first
+-- session began; how many keys were taken; what is attached to the units, what the disk holds of its file, and what the code
+-- keeps beside that, on which nothing that is done depends; and the terminal lines, line 0 first
 pub record MachineState : Type 0 where
   pub processor : ProcessorState
   pub ints : Ints
@@ -30,15 +30,15 @@ pub record MachineState : Type 0 where
   pub taken : ℕ
   pub slots : List (Option Held)
   pub disk : Buffer
-  pub marks : List Bool
+  pub aside : Aside
   pub lines : List (LineOf ℕ)
 
 -- what is attached to the units of a machine, and the machine with that attached
 abbrev pub attached_files : MachineState → AttachedFiles
-attached_files m = record { slots = m.slots; disk = m.disk; marks = m.marks }
+attached_files m = record { slots = m.slots; disk = m.disk; aside = m.aside }
 
 abbrev pub with_attached_files : MachineState → AttachedFiles → MachineState
-with_attached_files m a = record m { slots = a.slots; disk = a.disk; marks = a.marks }
+with_attached_files m a = record m { slots = a.slots; disk = a.disk; aside = a.aside }
 
 -- the machine with that line in place of the one with that number
 abbrev pub with_line : MachineState → ℕ → LineOf ℕ → MachineState
@@ -90,7 +90,7 @@ new_machine units = reset_machine (record {
   taken = 0;
   slots = no_files;
   disk = no_buffer;
-  marks = no_marks;
+  aside = nothing_aside;
   lines = lines_for units;
 })
 

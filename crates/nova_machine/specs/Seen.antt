@@ -1,7 +1,7 @@
 -- What a run works on, and what an early end of it must show: the machine, its terminal lines and what is still to come on
 -- them, the watch tables, the timed keys, and all files by their names.
--- The numbers of open files and of connections, and the marks of the disk's pages, are no part of it: the future of a run
--- does not depend on them.
+-- The numbers of open files and of connections, and what the code keeps beside the disk's copy, are no part of it: the
+-- future of a run does not depend on them.
 use Rattle.std.specs.Prelude.{ℕ, List, [], map, Option, option_map}
 use Rattle.file_traits.specs.Lists.{NamedBytes}
 use Rattle.host_lines.specs.Traffic.{Peer, Answer, Ahead}
@@ -30,9 +30,9 @@ pub record Seen : Type 0 where
 abbrev pub unnumbered : Option Held → Option Held
 unnumbered slot = option_map (λ (h : Held). record h { file = 0 }) slot
 
--- a machine without the numbers of open files, without the marks of the disk's pages, and without its lines
+-- a machine without the numbers of open files, without what the code keeps beside the disk's copy, and without its lines
 abbrev pub erased : MachineState → MachineState
-erased m = record m { slots = map unnumbered m.slots; marks = []; lines = [] }
+erased m = record m { slots = map unnumbered m.slots; aside = []; lines = [] }
 
 -- What stands beside the machine: the watch tables, the timed keys, all files, and the ports and connections of the
 -- outside.

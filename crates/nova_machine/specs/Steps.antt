@@ -72,13 +72,13 @@ IsAnswer (want.ReadByte place) a key expects made = IsByteAnswer a made
 IsAnswer (want.Tape order) a key expects made = IsTapeAnswer order a made
 IsAnswer w a key expects made = IsHosted w a [] key expects made
 
--- A want of a unit that was asked comes to that, and so the machine and the watch tables stand behind it. Of the marks of the
--- disk's pages nothing is said.
+-- A want of a unit that was asked comes to that, and so the machine and the watch tables stand behind it. Of what is kept
+-- beside the disk's copy nothing is said.
 pub record IsMade (keys : List (ℕ × ℕ)) (unit : UnitName) (w : Want) (watch watch' : WatchState) (m done : MachineState) (made : Hosted) : Type 0 where
   pub answer : IsAnswer w (attachment_at (attached_in m) unit) (first_key (due_send m.time watch.sends) (due_key keys m.taken m.time)) watch.expects made
   pub memory : MemoryState
   pub done_is : done
-      ≡ record (worked memory (typed_key (due_send m.time watch.sends) (due_key keys m.taken m.time)) (attachment_at (attached_in m) unit) w m) { marks = done.marks }
+      ≡ record (worked memory (typed_key (due_send m.time watch.sends) (due_key keys m.taken m.time)) (attachment_at (attached_in m) unit) w m) { aside = done.aside }
   pub watched : watch' ≡ watch_behind m.time w made watch
 
 -- the unit is answered, but where a call has failed, an image is bad or the console has refused a byte

@@ -120,7 +120,7 @@ impl<U: Unit> Model for Machine<U> {
       taken = m.taken;
       slots = m.attached.slots;
       disk = m.attached.disk;
-      marks = m.attached.marks;
+      aside = m.attached.aside;
       lines = m.lines.items;
     } };
 

@@ -45,7 +45,7 @@ impl<U: Unit> Machine<U> {
         ensures machine { self.new ≡ record self.old {
           disk = disk_after (attachment_at (attached_in self.old) disk_unit) self.old.processor.memory
               (wants.Sector true sector address) self.old.disk;
-          marks = self.new.marks;
+          aside = self.new.aside;
         } }
         ensures covers { MarksCover (attached_files self.old) (attached_files self.new) }
         ensures said { result

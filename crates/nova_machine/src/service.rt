@@ -258,7 +258,7 @@ impl<U: Unit> Machine<U> {
         requires kind { CanBeHosted want unit.kind }
         ensures machine { AreTold F.tells self.old.slots → self.new ≡ record (done_for (failure_of_stop (stop_in result))
             (typed_key (due_send self.old.time watch.old.sends) (due_key keys.now self.old.taken self.old.time))
-            (attachment_at (attached_in self.old) unit) (F.state files.old).files want self.old) { marks = self.new.marks } }
+            (attachment_at (attached_in self.old) unit) (F.state files.old).files want self.old) { aside = self.new.aside } }
         ensures covers { MarksCover (attached_files self.old) (attached_files self.new) }
         ensures watch { watch.new ≡ watch_behind self.old.time want result watch.old }
         ensures slots { self.new.slots ≡ self.old.slots }
@@ -293,7 +293,7 @@ impl<U: Unit> Machine<U> {
             watch.old.expects result }
         ensures work { self.new ≡ record (worked self.new.processor.memory
             (typed_key (due_send self.old.time watch.old.sends) (due_key keys.now self.old.taken self.old.time))
-            (attachment_at (attached_in self.old) unit) want self.old) { marks = self.new.marks } }
+            (attachment_at (attached_in self.old) unit) want self.old) { aside = self.new.aside } }
     {
         match want {
             Want::Nothing | Want::LinePut { line: _, byte: _ } => Hosted::Gets(Got::Done),

@@ -18,8 +18,8 @@ none-due unit disk clean = by-disk (is_disk unit.kind) refl
     by-disk true is = ap (λ (x : Bool). x && disk.written) is ∙ clean is
     by-disk false is = ap (λ (x : Bool). x && disk.written) is
 
-pub none-flushed : (fails : Option Failure) (unit : UnitName) (a : Option Attachment) (disk : Buffer) (marks : List Bool)
+pub none-flushed : (fails : Option Failure) (unit : UnitName) (a : Option Attachment) (disk : Buffer) (aside : List Bool)
     (files : List NamedBytes) → (is_disk unit.kind ≡ true → disk.written ≡ false)
-    → pages_flushed fails unit a disk marks files ≡ files
-none-flushed fails unit a disk marks files clean =
-    flushes-leave.nothing fails unit a disk marks files (none-due unit disk clean)
+    → pages_flushed fails unit a disk aside files ≡ files
+none-flushed fails unit a disk aside files clean =
+    flushes-leave.nothing fails unit a disk aside files (none-due unit disk clean)

@@ -4,7 +4,7 @@ use Rattle.std.specs.List.{AllByRecursion}
 use Rattle.std.proofs.lemmas.List.{get_or-set_other}
 use Rattle.unit_files.specs.Attachments.{Attachment, attachments_of, attachment_at, is_disk, file_place, no_attachments, no_files}
 use Rattle.unit_files.specs.Acts.{detached}
-use Rattle.unit_files.specs.Pages.{no_marks}
+use Rattle.unit_files.specs.Aside.{nothing_aside}
 use Rattle.unit_files.specs.Buffer.{AttachedFiles, Buffer, no_buffer, nothing_attached}
 use Rattle.saved_files.specs.GivingBack.{IsHeldIn, IsNoDisk, without_all, copy_behind}
 use Rattle.saved_session.specs.Parts.{FilePart}
@@ -86,8 +86,8 @@ all-held f fs all mid new is apart put held others =
 pub given-back : (lent given back : AttachedFiles) (fs : List FilePart) → given ≡ lent → AreApart fs
     → attachments_of lent.slots ≡ with_all no_attachments fs → (AllByRecursion IsNoDisk fs → lent.disk ≡ no_buffer)
     → attachments_of back.slots ≡ without_all (attachments_of given.slots) fs → back.disk ≡ copy_behind given.disk fs
-    → back.marks ≡ no_marks → back ≡ nothing_attached
-given-back lent given back fs same apart attached other slots disk marks =
+    → back.aside ≡ nothing_aside → back ≡ nothing_attached
+given-back lent given back fs same apart attached other slots disk aside =
     let none : attachments_of back.slots ≡ no_attachments =
     slots ∙ ap (λ (a : AttachedFiles). without_all (attachments_of a.slots) fs) same
     ∙ ap (λ (l : List (Option Attachment)). without_all l fs) attached
@@ -95,4 +95,4 @@ given-back lent given back fs same apart attached other slots disk marks =
     let held : back.slots ≡ no_files = nothing-held back.slots no_files refl none in
     let copy : back.disk ≡ no_buffer =
     disk ∙ ap (λ (a : AttachedFiles). copy_behind a.disk fs) same ∙ no-copy lent.disk fs other in
-    λ i. record { slots = held i; disk = copy i; marks = marks i }
+    λ i. record { slots = held i; disk = copy i; aside = aside i }

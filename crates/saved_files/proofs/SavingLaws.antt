@@ -270,11 +270,11 @@ reading-copy f attached disk reading =
     ap (λ (s : FlushSaid). buffer_flushed s disk_unit disk)
     (sym (same-flush (at_unit disk_unit (fault_claim f)) (attachment_at attached disk_unit) disk (no-write f reading)))
 
-pub reading-marks : (f : UnitFault) (attached : List (Option Attachment)) (disk : Buffer) (marks : List Bool) → IsReadingCall f
-    → marks_flushed (flush_said None disk_unit (attachment_at attached disk_unit) disk) disk_unit marks
-    ≡ marks_flushed (disk_flushed (fault_claim f) attached disk) disk_unit marks
-reading-marks f attached disk marks reading =
-    ap (λ (s : FlushSaid). marks_flushed s disk_unit marks)
+pub reading-marks : (f : UnitFault) (attached : List (Option Attachment)) (disk : Buffer) (aside : List Bool) → IsReadingCall f
+    → marks_flushed (flush_said None disk_unit (attachment_at attached disk_unit) disk) disk_unit aside
+    ≡ marks_flushed (disk_flushed (fault_claim f) attached disk) disk_unit aside
+reading-marks f attached disk aside reading =
+    ap (λ (s : FlushSaid). marks_flushed s disk_unit aside)
     (sym (same-flush (at_unit disk_unit (fault_claim f)) (attachment_at attached disk_unit) disk (no-write f reading)))
 
 pub unread-unsaved : (f : UnitFault) (attached : List (Option Attachment)) (disk : Buffer) (files now : List NamedBytes)

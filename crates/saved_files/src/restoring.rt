@@ -6,7 +6,7 @@ ghost use Rattle.file_traits.specs.Lists.{bytes_of};
 ghost use Rattle.file_traits.specs.State.{Opened};
 ghost use Rattle.unit_files.specs.Attachments.{Attachment, attachments_of, attachment_at, no_attachments};
 ghost use Rattle.unit_files.specs.Attachments.{takes_attachment, is_disk};
-ghost use Rattle.unit_files.specs.Pages.{no_marks};
+ghost use Rattle.unit_files.specs.Aside.{nothing_aside};
 ghost use Rattle.unit_files.specs.Buffer.{nothing_attached, no_buffer, disk_unit};
 ghost use Rattle.unit_files.specs.InStep.{InStep};
 ghost use Rattle.unit_files.specs.Acts.{detached};
@@ -59,7 +59,7 @@ fn give_back<F: Files>(attached: &mut Attached, unit: UnitName, files: &mut F)
     requires open { AllOpen attached.old.slots (F.state files.old).opened }
     ensures attached { attachments_of attached.new.slots ≡ detached unit (attachments_of attached.old.slots) }
     ensures disk { attached.new.disk ≡ (if is_disk unit.kind then no_buffer else attached.old.disk) }
-    ensures marks { attached.new.marks ≡ (if is_disk unit.kind then no_marks else attached.old.marks) }
+    ensures marks { attached.new.aside ≡ (if is_disk unit.kind then nothing_aside else attached.old.aside) }
     ensures files { (F.state files.new).files ≡ (F.state files.old).files }
     ensures open { AllOpen attached.new.slots (F.state files.new).opened }
     ensures around { (base : List Opened) → Around attached.old.slots base (F.state files.old).opened
@@ -94,7 +94,7 @@ fn attach_file<F: Files>(
     ensures bytes { IsTrue F.tells → OnOk result (is_disk (kind_at file.now.position) ≡ true
         → attached.new.disk.bytes ≡ bytes_of (F.state files.old).files (file_in file.now).name) }
     ensures other { is_disk (kind_at file.now.position) ≡ false → attached.new.disk ≡ attached.old.disk }
-    ensures unmarked { attached.old.marks ≡ no_marks → attached.new.marks ≡ no_marks }
+    ensures unmarked { attached.old.aside ≡ nothing_aside → attached.new.aside ≡ nothing_aside }
     ensures step { IsTrue F.tells → InStep attached.old (F.state files.old).files
         → OnOk result (InStep attached.new (F.state files.new).files) }
     ensures refused { OnErr result (attached.new ≡ attached.old) }
@@ -179,7 +179,7 @@ fn attach_one<F: Files>(
     ensures bytes { IsTrue F.tells → OnOk result (is_disk (kind_at file.now.position) ≡ true
         → attached.new.disk.bytes ≡ bytes_of (F.state files.old).files (file_in file.now).name) }
     ensures other { is_disk (kind_at file.now.position) ≡ false → attached.new.disk ≡ attached.old.disk }
-    ensures unmarked { attached.old.marks ≡ no_marks → attached.new.marks ≡ no_marks }
+    ensures unmarked { attached.old.aside ≡ nothing_aside → attached.new.aside ≡ nothing_aside }
     ensures step { IsTrue F.tells → InStep attached.old (F.state files.old).files
         → OnOk result (InStep attached.new (F.state files.new).files) }
     ensures slots { OnErr result (attachments_of attached.new.slots ≡ attachments_of attached.old.slots) }
@@ -237,7 +237,7 @@ fn attach_each<F: Files>(
     ensures held { OnOk result (AllByRecursion (IsHeldIn (attachments_of attached.new.slots)) (files_in saved.now)) }
     ensures unwritten { attached.old.disk.written ≡ false → attached.new.disk.written ≡ false }
     ensures other { AllByRecursion IsNoDisk (files_in saved.now) → attached.new.disk ≡ attached.old.disk }
-    ensures unmarked { attached.old.marks ≡ no_marks → attached.new.marks ≡ no_marks }
+    ensures unmarked { attached.old.aside ≡ nothing_aside → attached.new.aside ≡ nothing_aside }
     ensures step { IsTrue F.tells → InStep attached.old (F.state files.old).files
         → OnOk result (InStep attached.new (F.state files.new).files) }
     ensures files { IsTrue F.tells → (F.state files.new).files ≡ (F.state files.old).files }
@@ -291,7 +291,7 @@ pub fn attach_all<F: Files>(
     ensures held { OnOk result (AllByRecursion (IsHeldIn (attachments_of attached.new.slots)) (files_in saved.now)) }
     ensures unwritten { attached.new.disk.written ≡ false }
     ensures other { AllByRecursion IsNoDisk (files_in saved.now) → attached.new.disk ≡ no_buffer }
-    ensures unmarked { attached.new.marks ≡ no_marks }
+    ensures unmarked { attached.new.aside ≡ nothing_aside }
     ensures step { IsTrue F.tells → OnOk result (InStep attached.new (F.state files.new).files) }
     ensures refused { OnErr result (attached.new ≡ attached.old) }
     ensures closed { OnErr result ((F.state files.new).opened ≡ (F.state files.old).opened) }
@@ -318,7 +318,7 @@ pub fn give_back_all<F: Files>(saved: &[SavedFile], attached: &mut Attached, fil
     requires open { AllOpen attached.old.slots (F.state files.old).opened }
     ensures attached { attachments_of attached.new.slots ≡ without_all (attachments_of attached.old.slots) (files_in saved.now) }
     ensures disk { attached.new.disk ≡ copy_behind attached.old.disk (files_in saved.now) }
-    ensures unmarked { attached.old.marks ≡ no_marks → attached.new.marks ≡ no_marks }
+    ensures unmarked { attached.old.aside ≡ nothing_aside → attached.new.aside ≡ nothing_aside }
     ensures files { (F.state files.new).files ≡ (F.state files.old).files }
     ensures open { AllOpen attached.new.slots (F.state files.new).opened }
     ensures around { (base : List Opened) → Around attached.old.slots base (F.state files.old).opened

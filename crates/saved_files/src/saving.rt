@@ -160,8 +160,8 @@ fn write_back<F: Files>(attached: &mut Attached, files: &mut F) -> Result<(), Un
     ensures slots { attached.new.slots ≡ attached.old.slots }
     ensures disk { attached.new.disk ≡ buffer_flushed (flush_said (failure_of_write result) disk_unit
         (attachment_at (attachments_of attached.old.slots) disk_unit) attached.old.disk) disk_unit attached.old.disk }
-    ensures marks { attached.new.marks ≡ marks_flushed (flush_said (failure_of_write result) disk_unit
-        (attachment_at (attachments_of attached.old.slots) disk_unit) attached.old.disk) disk_unit attached.old.marks }
+    ensures marks { attached.new.aside ≡ marks_flushed (flush_said (failure_of_write result) disk_unit
+        (attachment_at (attachments_of attached.old.slots) disk_unit) attached.old.disk) disk_unit attached.old.aside }
     ensures files { InStep attached.old (F.state files.old).files → (F.state files.new).files
         ≡ flush_files (failure_of_write result) disk_unit (attachment_at (attachments_of attached.old.slots) disk_unit)
         attached.old.disk (F.state files.old).files }
@@ -251,8 +251,8 @@ pub fn digest_all<F: Files>(
     ensures slots { attached.new.slots ≡ attached.old.slots }
     ensures disk { UnlessNoMemory result (attached.new.disk
         ≡ copy_flushed (save_claim result) (attachments_of attached.old.slots) attached.old.disk) }
-    ensures marks { UnlessNoMemory result (attached.new.marks ≡ marks_flushed (disk_flushed (save_claim result)
-        (attachments_of attached.old.slots) attached.old.disk) disk_unit attached.old.marks) }
+    ensures marks { UnlessNoMemory result (attached.new.aside ≡ marks_flushed (disk_flushed (save_claim result)
+        (attachments_of attached.old.slots) attached.old.disk) disk_unit attached.old.aside) }
     ensures files { InStep attached.old (F.state files.old).files → UnlessNoMemory result ((F.state files.new).files
         ≡ files_flushed (save_claim result) (attachments_of attached.old.slots) attached.old.disk
         (F.state files.old).files) }

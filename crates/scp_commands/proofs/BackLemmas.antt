@@ -30,6 +30,7 @@ back-in-room tells files (Restore force name) (Ok next) old room new same back =
   machine = back.machine ∙ ap (λ (m : MachineState). record (with_machine_of m back.saved.machine) {
     slots = new.machine.slots;
     disk = new.machine.disk;
+    aside = new.machine.aside;
     lines = ported_by back.saved.port m.lines;
   }) same;
   attached = back.attached;

@@ -1,17 +1,17 @@
 -- What holds of every command: it reads nothing, the status of an exit is small, and one that is refused has changed
 -- nothing but files.
-use Rattle.std.proofs.Common.{◌≡◌, ℕ, Bool, true, false, List, [], ◌∷◌, refl, sym, subst, ◌∙◌, drop, Option, Some, None, Result, Ok, Err, if◌then◌else◌, nat_le, nat_lt, not, ◌==◌, length, ◌+◌, ◌&&◌, ◌^◌, min, unwrap_or, arith, is_none, is_some}
+use Rattle.std.proofs.Common.{◌≡◌, inl, inr, ℕ, Bool, true, false, List, [], ◌∷◌, refl, sym, subst, ◌∙◌, drop, Option, Some, None, Result, Ok, Err, if◌then◌else◌, nat_le, nat_lt, not, ◌==◌, length, ◌+◌, ◌&&◌, ◌^◌, min, unwrap_or, arith, is_none, is_some}
 use Rattle.std.proofs.lemmas.Bool.{leb-true}
 use Rattle.observations.specs.Observations.{Prints, reads_of, map_made}
 use Rattle.observations.proofs.MadeLemmas.{reads_of-append, reads_of-map}
 use Rattle.unit_trait.specs.declared.kind.UnitName.{UnitName}
 use Rattle.unit_files.specs.declared.modes.AttachMode.{AttachMode}
 use Rattle.unit_files.specs.Attachments.{Attachment, attachment_at}
-use Rattle.unit_files.specs.Buffer.{Buffer}
+use Rattle.unit_files.specs.Buffer.{Buffer, disk_unit}
 use Rattle.unit_files.specs.Acts.{AttachSaid, Attached, UnitHasFile, OnlyWrites, NotThere, TooLong, CallFailed}
 use Rattle.file_traits.specs.Lists.{NamedBytes, bytes_of, changed}
 use Rattle.unit_files.specs.Acts.{Failure, DetachSaid, HadNone, StillHeld, Detached, attach_said, attach_files, detach_said, detach_said_of}
-use Rattle.unit_files.specs.Acts.{closing_said, flush_failure, flush_files, is_due_back, written_back}
+use Rattle.unit_files.specs.Acts.{closing_said, flush_failure, flush_files, is_due_back, written_back, FlushSaid, HasNone, NotFlushed, Flushed, buffer_flushed}
 use Rattle.file_commands.specs.declared.note.Subject.{Subject}
 use Rattle.file_commands.specs.declared.note.Subject.TheVariants as subject
 use Rattle.whole_files.specs.Whole.{WholeSaid, WholeIs, whole_act}
@@ -67,7 +67,7 @@ use Rattle.state_transfer.specs.Listening.{wants_port}
 use Rattle.saved_session.specs.Parts.{State}
 use Rattle.state_text.specs.Reading.{reading}
 use Rattle.saved_files.specs.Restoring.{FileRefusal}
-use Rattle.saved_files.specs.Saving.{first_unsaved}
+use Rattle.saved_files.specs.Saving.{first_unsaved, disk_flushed, copy_flushed}
 use Rattle.state_transfer.specs.Session.{saved}
 use Rattle.state_text.specs.Text.{text}
 use Rattle.command_session.specs.TapeEffects.{tape_in, tape_answer, tape_machine, loaded_machine, load_answer, load_reply, can_dump, dump_of, dump_answer, dump_after, dump_reply}
@@ -79,9 +79,8 @@ use Rattle.scp_commands.specs.Effect.{effect, does}
 use Rattle.command_session.specs.Asked.{Asked}
 use Rattle.command_session.specs.Nature.{nature}
 use Rattle.command_session.specs.Remains.{Remains}
-use Rattle.scp_commands.specs.Traces.{LeavesTraces, IsUntouched}
+use Rattle.scp_commands.specs.Traces.{LeavesTraces, SeenRemains, IsUntouched}
 use Rattle.scp_commands.proofs.TraceLemmas.{files-kept}
-use Rattle.state_commands.proofs.SaveLemmas.{copy-left}
 
 -- what holds of a reply to a command that was given in that state, flushes the disk or does not, and leaves files changed
 -- only where it is refused with those faults
@@ -489,6 +488,15 @@ fair-dump notes live from to name =
     (fair-refused _ live)
 
 -- ---- SAVE and RESTORE
+
+-- the disk's copy was written back, or is as it was
+copy-left : (claim : Option (UnitName × Failure)) (m : MachineState) → SeenRemains true m (record m { disk = copy_flushed claim (attached_in m) m.disk })
+copy-left claim m = by-said (disk_flushed claim (attached_in m) m.disk)
+  where
+    by-said : (said : FlushSaid) → SeenRemains true m (record m { disk = buffer_flushed said disk_unit m.disk })
+    by-said HasNone = inl refl
+    by-said (NotFlushed f) = inl refl
+    by-said Flushed = inr refl
 
 -- what was refused may have flushed the disk, and left a part in a file
 fair-unsaved : (claim : Option (UnitName × Failure)) (name : List ℕ) (who : Subject) (used : ℕ) (live : Live) (files : List NamedBytes)

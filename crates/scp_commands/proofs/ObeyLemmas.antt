@@ -204,6 +204,25 @@ host-is limit notes live (Load name) hosted = refl
 host-is limit notes live (Dump from to name) hosted = refl
 host-is limit notes live r hosted = absurd hosted
 
+-- no command of the others works on no file and no line
+pub run-no-untold : (r : Request) → IsRun r → IsUntold r → ⊥
+run-no-untold (Run address) runs untold = absurd (cc untold.0)
+run-no-untold (GoRequest address) runs untold = absurd (cc untold.0)
+run-no-untold Cont runs untold = absurd (cc untold.0)
+run-no-untold (Step count) runs untold = absurd (cc untold.0)
+run-no-untold r runs untold = runs
+
+pub host-no-untold : (r : Request) → IsHosted r → IsUntold r → ⊥
+host-no-untold (Attach option unit name) hosted untold = absurd (cc untold.0)
+host-no-untold (AttachPort kind port) hosted untold = absurd (cc untold.0)
+host-no-untold (Detach unit) hosted untold = absurd (cc untold.1)
+host-no-untold (Disconnect kind) hosted untold = absurd (cc untold.0)
+host-no-untold (Do echo strict name arguments) hosted untold = absurd (cc untold.0)
+host-no-untold (ExitRequest status) hosted untold = absurd (cc untold.0)
+host-no-untold (Load name) hosted untold = absurd (cc untold.0)
+host-no-untold (Dump from to name) hosted untold = absurd (cc untold.0)
+host-no-untold r hosted untold = hosted
+
 -- ---- a command that runs
 
 pub run-told : (tells : Bool) (slots : List (Option Held)) (line_tells : Bool) (s : LineState) (lines : List (LineOf ℕ)) (r : Request) → IsRun r

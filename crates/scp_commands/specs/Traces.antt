@@ -1,11 +1,12 @@
 -- What a command that is refused may leave behind.
-use Rattle.std.specs.Prelude.{◌≡◌, true, [], Bool, false}
+use Rattle.std.specs.Prelude.{◌≡◌, ◌⊎◌, true, [], Bool, false}
+use Rattle.nova_machine.specs.Machine.{MachineState}
 use Rattle.scp_parser.specs.Command.{Request}
 use Rattle.command_session.specs.declared.fault.CommandFault.{CommandFault}
 use Rattle.command_session.specs.declared.fault.CommandFault.TheVariants.{FileFailed, PortFailed}
 use Rattle.command_session.specs.Live.{Live}
 use Rattle.command_session.specs.Nature.{nature}
-use Rattle.command_session.specs.Remains.{MachineRemains}
+use Rattle.command_session.specs.Remains.{flushed_machine}
 use Rattle.command_session.specs.Reply.{Reply}
 
 -- the commands that may leave something behind where they are refused with that fault: ATTACH, which may have made or
@@ -21,9 +22,14 @@ abbrev pub LeavesTraces : Request → CommandFault → Type 0
 LeavesTraces request PortFailed = Unit {0}
 LeavesTraces request fault = traces_by (nature request).leaves_part fault
 
+-- a machine that is left by a command that flushes or does not, as it is seen
+abbrev pub SeenRemains : Bool → MachineState → MachineState → Type 0
+SeenRemains false old new = new ≡ old
+SeenRemains true old new = (new ≡ old) ⊎ (new ≡ flushed_machine old)
+
 -- it has printed nothing, and changed nothing but files, the mark of a disk that was flushed, and what is still to come on lines
 pub record IsUntouched (flushes : Bool) (live : Live) (reply : Reply) : Type 0 where
-  pub machine : MachineRemains flushes live.machine reply.after.live.machine
+  pub machine : SeenRemains flushes live.machine reply.after.live.machine
   pub watch : reply.after.live.watch ≡ live.watch
   pub keys : reply.after.live.keys ≡ live.keys
   pub lines : reply.after.live.lines ≡ live.lines

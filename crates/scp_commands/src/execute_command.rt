@@ -1,19 +1,22 @@
 ghost use Rattle.std.specs.Prelude.{◌≡◌, ◌≢◌, ◌≤◌, List, Ok, Err};
 ghost use Rattle.file_traits.specs.State.{Opened};
 ghost use Rattle.unit_list.specs.Bus.{kinds_of};
+ghost use Rattle.unit_files.specs.InStep.{InStep};
 ghost use Rattle.unit_files.specs.Open.{AllOpen, Around};
 ghost use Rattle.file_commands.specs.OwnFiles.{AreOwn};
 ghost use Rattle.file_commands.specs.Notes.{notes_said};
 ghost use Rattle.nova_machine.specs.declared.machine.Stop.TheVariants.{ConsoleFault};
 ghost use Rattle.host_lines.specs.Traffic.{Answer as LineAnswer};
 ghost use Rattle.host_lines.specs.Told.{IsFirst, record_in};
+ghost use Rattle.nova_machine.specs.Machine.{attached_files};
 ghost use Rattle.nova_machine.specs.Comes.{output};
 ghost use Rattle.state_transfer.specs.SavedValid.{AreStandard};
 ghost use Rattle.command_session.specs.declared.next.Next.TheVariants.{Ran};
 ghost use Rattle.command_session.specs.declared.fault.CommandFault.TheVariants.{OutOfMemory};
 ghost use Rattle.command_session.specs.Live.{live_in, beyond};
 ghost use Rattle.scp_commands.specs.Effect.{effect, IsStateless};
-ghost use Rattle.command_session.specs.Nature.{nature};
+ghost use Rattle.command_session.specs.Nature.{nature, IsUntold};
+ghost use Rattle.command_session.specs.DiskFile.{StaysWhereAlone};
 ghost use Rattle.command_session.specs.LinesLeft.{LinesLeft, IsUnlistened, ListenCause};
 ghost use Rattle.scp_commands.specs.LineAnswers.{LinesAnswer};
 ghost use Rattle.state_commands.specs.StateAnswers.{PutsSessionBack};
@@ -22,7 +25,7 @@ ghost use Rattle.command_session.specs.Refusals.{IsUnrefused, IsMeasured};
 ghost use Rattle.command_session.specs.Answers.{AnswersByTables, CanAnswer};
 ghost use Rattle.scp_commands.specs.Works.{Works};
 ghost use Rattle.command_session.specs.RunStops.{RunStops, run_count, is_step};
-ghost use Rattle.command_session.specs.Doing.{Did, IsTold, IsRefused, ConsoleCounts, MayWant, IsUndone, says_files, IsExitAnswer, RunCause, AttachNote, KeepsAs, KeepsBy, is_restore, opens_of};
+ghost use Rattle.command_session.specs.Doing.{Did, Grows, IsTold, IsRefused, ConsoleCounts, MayWant, IsUndone, says_files, IsExitAnswer, RunCause, AttachNote, KeepsAs, KeepsBy, is_restore, opens_of};
 
 use crate::family::{Family, family_of};
 use command_session::{CommandFault, Next, Session};
@@ -63,12 +66,22 @@ pub fn execute<U: Unit, F: Files, L: Lines, S: Sink>(
     ensures refused { IsRefused result
         → AreLeft (nature command.now).flushes session.old session.new }
     ensures told { IsTold F.tells session.old.machine.slots L.tells (L.state lines.old) session.old.machine.lines
-        command.now → (whole : List LineAnswer) → IsFirst (record_in (L.state lines.new).told) whole
+        command.now → InStep (attached_files session.old.machine) (F.state files.old).files
+        → (whole : List LineAnswer) → IsFirst (record_in (L.state lines.new).told) whole
         → Did (λ notes. effect session.old.limit notes
         (live_in session.old (beyond (F.state files.old).files (L.state lines.old) whole)) command.now)
         session.old.command result (live_in session.new (beyond (F.state files.new).files (L.state lines.new) whole))
         S.tells (output (S.written out.old) (L.state lines.old).sent) (output (S.written out.new) (L.state lines.new).sent)
         (notes_said session.old.notes) (notes_said session.new.notes) }
+    ensures untold { IsUntold command.now → (whole : List LineAnswer)
+        → Did (λ notes. effect session.old.limit notes
+        (live_in session.old (beyond (F.state files.old).files (L.state lines.old) whole)) command.now)
+        session.old.command result (live_in session.new (beyond (F.state files.new).files (L.state lines.new) whole))
+        S.tells (output (S.written out.old) (L.state lines.old).sent) (output (S.written out.new) (L.state lines.new).sent)
+        (notes_said session.old.notes) (notes_said session.new.notes) }
+    ensures step { IsTold F.tells session.old.machine.slots L.tells (L.state lines.old) session.old.machine.lines
+        command.now → StaysWhereAlone session.old session.new (F.state files.old).files (F.state files.new).files }
+    ensures grows { Grows S.tells (S.written out.old) (S.written out.new) }
     ensures lines { LinesLeft L.tells (L.state lines.old) session.old.machine.lines (L.state lines.new)
         session.new.machine.lines }
     ensures unasked { IsRefused result → (IsUnlistened command.now result → ⊥) → lines.new ≡ lines.old }
@@ -130,12 +143,22 @@ fn obey<U: Unit, F: Files, L: Lines, S: Sink>(
     ensures refused { IsRefused result
         → AreLeft (nature command.now).flushes session.old session.new }
     ensures told { IsTold F.tells session.old.machine.slots L.tells (L.state lines.old) session.old.machine.lines
-        command.now → (whole : List LineAnswer) → IsFirst (record_in (L.state lines.new).told) whole
+        command.now → InStep (attached_files session.old.machine) (F.state files.old).files
+        → (whole : List LineAnswer) → IsFirst (record_in (L.state lines.new).told) whole
         → Did (λ notes. effect session.old.limit notes
         (live_in session.old (beyond (F.state files.old).files (L.state lines.old) whole)) command.now)
         session.old.command result (live_in session.new (beyond (F.state files.new).files (L.state lines.new) whole))
         S.tells (output (S.written out.old) (L.state lines.old).sent) (output (S.written out.new) (L.state lines.new).sent)
         (notes_said session.old.notes) (notes_said session.new.notes) }
+    ensures untold { IsUntold command.now → (whole : List LineAnswer)
+        → Did (λ notes. effect session.old.limit notes
+        (live_in session.old (beyond (F.state files.old).files (L.state lines.old) whole)) command.now)
+        session.old.command result (live_in session.new (beyond (F.state files.new).files (L.state lines.new) whole))
+        S.tells (output (S.written out.old) (L.state lines.old).sent) (output (S.written out.new) (L.state lines.new).sent)
+        (notes_said session.old.notes) (notes_said session.new.notes) }
+    ensures step { IsTold F.tells session.old.machine.slots L.tells (L.state lines.old) session.old.machine.lines
+        command.now → StaysWhereAlone session.old session.new (F.state files.old).files (F.state files.new).files }
+    ensures grows { Grows S.tells (S.written out.old) (S.written out.new) }
     ensures lines { LinesLeft L.tells (L.state lines.old) session.old.machine.lines (L.state lines.new)
         session.new.machine.lines }
     ensures unasked { IsRefused result → (IsUnlistened command.now result → ⊥) → lines.new ≡ lines.old }
@@ -200,12 +223,22 @@ fn obey_stateless<U: Unit, F: Files, L: Lines, S: Sink>(
     ensures refused { IsRefused result
         → AreLeft (nature command.now).flushes session.old session.new }
     ensures told { IsTold F.tells session.old.machine.slots L.tells (L.state lines.old) session.old.machine.lines
-        command.now → (whole : List LineAnswer) → IsFirst (record_in (L.state lines.new).told) whole
+        command.now → InStep (attached_files session.old.machine) (F.state files.old).files
+        → (whole : List LineAnswer) → IsFirst (record_in (L.state lines.new).told) whole
         → Did (λ notes. effect session.old.limit notes
         (live_in session.old (beyond (F.state files.old).files (L.state lines.old) whole)) command.now)
         session.old.command result (live_in session.new (beyond (F.state files.new).files (L.state lines.new) whole))
         S.tells (output (S.written out.old) (L.state lines.old).sent) (output (S.written out.new) (L.state lines.new).sent)
         (notes_said session.old.notes) (notes_said session.new.notes) }
+    ensures untold { IsUntold command.now → (whole : List LineAnswer)
+        → Did (λ notes. effect session.old.limit notes
+        (live_in session.old (beyond (F.state files.old).files (L.state lines.old) whole)) command.now)
+        session.old.command result (live_in session.new (beyond (F.state files.new).files (L.state lines.new) whole))
+        S.tells (output (S.written out.old) (L.state lines.old).sent) (output (S.written out.new) (L.state lines.new).sent)
+        (notes_said session.old.notes) (notes_said session.new.notes) }
+    ensures step { IsTold F.tells session.old.machine.slots L.tells (L.state lines.old) session.old.machine.lines
+        command.now → StaysWhereAlone session.old session.new (F.state files.old).files (F.state files.new).files }
+    ensures grows { Grows S.tells (S.written out.old) (S.written out.new) }
     ensures lines { LinesLeft L.tells (L.state lines.old) session.old.machine.lines (L.state lines.new)
         session.new.machine.lines }
     ensures unasked { IsRefused result → (IsUnlistened command.now result → ⊥) → lines.new ≡ lines.old }

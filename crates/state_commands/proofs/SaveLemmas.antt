@@ -272,7 +272,7 @@ refused-keeps number time tells save.OutOfMemory answer slots notes notes' old n
 abbrev pub behind-flush : Option (UnitName × Failure) → MachineState → MachineState
 behind-flush claim m = record m {
   disk = copy_flushed claim (attached_in m) m.disk;
-  marks = marks_flushed (disk_flushed claim (attached_in m) m.disk) disk_unit m.marks;
+  aside = marks_flushed (disk_flushed claim (attached_in m) m.disk) disk_unit m.aside;
 }
 
 -- the disk's copy was written back, or is as it was
@@ -280,7 +280,7 @@ pub copy-left : (claim : Option (UnitName × Failure)) (m : MachineState) → Ma
 copy-left claim m = by-said (disk_flushed claim (attached_in m) m.disk)
   where
     by-said : (said : FlushSaid)
-        → MachineRemains true m (record m { disk = buffer_flushed said disk_unit m.disk; marks = marks_flushed said disk_unit m.marks })
+        → MachineRemains true m (record m { disk = buffer_flushed said disk_unit m.disk; aside = marks_flushed said disk_unit m.aside })
     by-said HasNone = inl refl
     by-said (NotFlushed f) = inl refl
     by-said Flushed = inr refl

@@ -22,7 +22,7 @@ pub record PutsBack (tells : Bool) (files : List NamedBytes) (name : List ℕ) (
   pub machine : new.machine ≡ record (with_machine_of old.machine saved.machine) {
     slots = new.machine.slots;
     disk = new.machine.disk;
-    marks = new.machine.marks;
+    aside = new.machine.aside;
     lines = ported_by saved.port old.machine.lines;
   }
   pub attached : attachments_of new.machine.slots ≡ with_all no_attachments saved.files

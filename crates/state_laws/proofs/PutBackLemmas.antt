@@ -222,7 +222,7 @@ machine-back s can =
     let slots = ap (map held_from) attached ∙ numbers-back m.slots ∙ ap (λ (x : MachineState). x.slots) can.seen in
     let disk = ap (λ (l : List (Option Attachment)). copy_of (attachment_at l disk_unit) s.files) attached
     ∙ copy-back (attachment_at (attached_in m) disk_unit) m.disk s.files can.copy can.written in
-    let marks = ap (λ (x : MachineState). x.marks) can.seen in
+    let aside = ap (λ (x : MachineState). x.aside) can.seen in
     let lines = ap (λ (x : MachineState). x.lines) can.seen in
     λ i. record {
       processor = record {
@@ -242,7 +242,7 @@ machine-back s can =
       taken = m.taken;
       slots = slots i;
       disk = disk i;
-      marks = marks i;
+      aside = aside i;
       lines = lines i;
     }
 
@@ -314,7 +314,7 @@ no-numbers-twice (Some h ∷ slots) =
     ap (λ (l : List (Option Held)). Some (record h { file = 0 }) ∷ l) (no-numbers-twice slots)
 
 erased-twice : (m : MachineState) → erased (erased m) ≡ erased m
-erased-twice m = λ i. record m { slots = no-numbers-twice m.slots i; marks = []; lines = [] }
+erased-twice m = λ i. record m { slots = no-numbers-twice m.slots i; aside = []; lines = [] }
 
 settled-idle : (s : LineState) (line : LineOf ℕ) → IsSettled line → line.connection ≡ None → line.port ≢ Some 0
     → IsIdleLine (seen_line s line)

@@ -176,7 +176,7 @@ seen-as old new p becomes attached files here copy =
       taken = p.cpu.keys_taken;
       slots = slots i;
       disk = copy i;
-      marks = [];
+      aside = [];
       lines = [];
     })
 

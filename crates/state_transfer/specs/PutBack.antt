@@ -53,7 +53,7 @@ event_from e = record { unit = unit_named e.position e.unit; remaining = e.remai
 abbrev pub held_from : Option Attachment → Option Held
 held_from a = option_map (λ (b : Attachment). record { file = 0; attachment = b }) a
 
--- a machine to whose units that is attached, without its lines, and without the marks of the disk's pages
+-- a machine to whose units that is attached, without its lines, and with nothing kept beside the disk's copy
 unfoldable pub machine_from : MachinePart → List (Option Attachment) → List NamedBytes → MachineState
 machine_from m attached files = record {
   processor = record { cpu = cpu_from m.cpu; memory = memory_from m.cpu.size_k m.words };
@@ -66,7 +66,7 @@ machine_from m attached files = record {
   taken = m.cpu.keys_taken;
   slots = map held_from attached;
   disk = copy_of (attachment_at attached disk_unit) files;
-  marks = [];
+  aside = [];
   lines = [];
 }
 
@@ -100,8 +100,8 @@ pub record IsIdleLine (line : LineOf Peer) : Type 0 where
   pub port : line.port ≢ Some 0
 
 -- The memory is one, of a size that a machine may have, and each unit that takes files has its place. The machine is
--- without numbers of files, without marks of the disk's pages and without its lines, as it is seen. The disk's copy is that
--- of its file, and nothing is to be written back. The actions of the stop that came last are forgotten. There is one line,
+-- without numbers of files, with nothing kept beside the disk's copy and without its lines, as it is seen. The disk's copy is
+-- that of its file, and nothing is to be written back. The actions of the stop that came last are forgotten. There is one line,
 -- with nobody on it.
 pub record CanBeSaved (s : Seen) : Type 0 where
   pub memory : IsMemory s.machine.processor.memory

@@ -164,7 +164,7 @@ pub fn set_state<U: Unit, F: Files, L: Lines>(
     ensures rest { OnOk result (machine.new ≡ record (with_machine_of machine.old (state_in saved.now).machine) {
       slots = machine.new.slots;
       disk = machine.new.disk;
-      marks = machine.new.marks;
+      aside = machine.new.aside;
       lines = machine.new.lines;
     }) }
     ensures attached { OnOk result (attachments_of machine.new.slots ≡ with_all no_attachments (state_in saved.now).files) }

@@ -50,8 +50,8 @@ pub fn take_state<U: Unit, F: Files>(
         (F.state files.old).files ≡ save_claim result) }
     ensures machine { UnlessNoMemory result (machine.new ≡ record machine.old {
       disk = copy_flushed (save_claim result) (attached_in machine.old) machine.old.disk;
-      marks = marks_flushed (disk_flushed (save_claim result) (attached_in machine.old) machine.old.disk) disk_unit
-          machine.old.marks;
+      aside = marks_flushed (disk_flushed (save_claim result) (attached_in machine.old) machine.old.disk) disk_unit
+          machine.old.aside;
     }) }
     ensures files { InStep (attached_files machine.old) (F.state files.old).files → UnlessNoMemory result
         ((F.state files.new).files ≡ files_flushed (save_claim result) (attached_in machine.old) machine.old.disk

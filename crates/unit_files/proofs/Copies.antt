@@ -167,7 +167,7 @@ free-are (None ∷ slots) none = ap (λ (l : List (Option Held)). None ∷ l) (f
 free-are (Some h ∷ slots) none = absurd (cc)
 
 abbrev pub files_of : List (Option Held) → DiskCopy → AttachedFiles
-files_of slots d = record { slots = slots; disk = buffer_of d; marks = marks_of d.marks.items }
+files_of slots d = record { slots = slots; disk = buffer_of d; aside = marks_of d.marks.items }
 
 -- where no unit has a file, there is no copy of a disk
 pub nothing-there : (slots : List (Option Held)) (d : DiskCopy) → is_any_attached (attachments_of slots) ≡ false
@@ -177,4 +177,4 @@ nothing-there slots d none all can =
     let free : slots ≡ no_files = free-are slots none ∙ ap (λ (n : ℕ). replicate n None) all in
     let copy = can.none (ap (λ (l : List (Option Held)). get_or l 0 None) free) in
     let unmarked = no-pages d copy.1 in
-    λ i. record { slots = free i; disk = record { bytes = copy.0 i; written = copy.2 i }; marks = unmarked i }
+    λ i. record { slots = free i; disk = record { bytes = copy.0 i; written = copy.2 i }; aside = unmarked i }

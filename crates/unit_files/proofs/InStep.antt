@@ -204,7 +204,7 @@ no-files fault unit o disk files none = ap (λ (x : Option Attachment). flush_fi
 module _ (fault : Option Failure) (unit : UnitName) (said : FlushSaid) (old new : AttachedFiles) (files files' : List NamedBytes)
     (takes : IsTrue (takes_attachment unit)) (slots : new.slots ≡ old.slots)
     (says : said ≡ flush_said fault unit (attachment_at (attachments_of old.slots) unit) old.disk)
-    (copy : new.disk ≡ buffer_flushed said unit old.disk) (marks : new.marks ≡ marks_flushed said unit old.marks)
+    (copy : new.disk ≡ buffer_flushed said unit old.disk) (marks : new.aside ≡ marks_flushed said unit old.aside)
     (left : files' ≡ flush_files fault unit (attachment_at (attachments_of old.slots) unit) old.disk files)
     (part : IsPart fault old.disk) (step : InStep old files) where
   same-disk : of-disk new ≡ of-disk old
@@ -215,17 +215,17 @@ module _ (fault : Option Failure) (unit : UnitName) (said : FlushSaid) (old new 
       let here = disk-file (attachments_of old.slots) unit takes is in
       let told = says ∙ ap (λ (o : Option Attachment). flush_said fault unit o old.disk) here in
       step-moved (of-disk old) (of-disk new) (buffer_flushed (flush_said fault unit (of-disk old) old.disk) unit old.disk) new.disk
-      (marks_flushed (flush_said fault unit (of-disk old) old.disk) unit old.marks) new.marks
+      (marks_flushed (flush_said fault unit (of-disk old) old.disk) unit old.aside) new.aside
       (flush_files fault unit (of-disk old) old.disk files) files' same-disk
       (copy ∙ ap (λ (s : FlushSaid). buffer_flushed s unit old.disk) told)
-      (marks ∙ ap (λ (s : FlushSaid). marks_flushed s unit old.marks) told)
+      (marks ∙ ap (λ (s : FlushSaid). marks_flushed s unit old.aside) told)
       (left ∙ ap (λ (o : Option Attachment). flush_files fault unit o old.disk files) here)
-      (flushed-at fault unit (of-disk old) old.disk old.marks files is part step)
+      (flushed-at fault unit (of-disk old) old.disk old.aside files is part step)
 
   elsewhere : is_disk unit.kind ≡ false → InStep new files'
   elsewhere other =
-      step-moved (of-disk old) (of-disk new) old.disk new.disk old.marks new.marks files files' same-disk
-      (copy ∙ other-buffer said unit old.disk other) (marks ∙ other-marks said unit old.marks other)
+      step-moved (of-disk old) (of-disk new) old.disk new.disk old.aside new.aside files files' same-disk
+      (copy ∙ other-buffer said unit old.disk other) (marks ∙ other-marks said unit old.aside other)
       (left ∙ other-files fault unit (attachment_at (attachments_of old.slots) unit) old.disk files other) step
 
   -- behind a writing back
@@ -235,9 +235,9 @@ module _ (fault : Option Failure) (unit : UnitName) (said : FlushSaid) (old new 
 -- what a writing back does by content, from what it does by pages
 pub step-content : (fault : Option Failure) (unit : UnitName) (a : AttachedFiles) (files : List NamedBytes)
     → IsTrue (takes_attachment unit) → InStep a files → is_disk unit.kind ≡ true
-    → StepAt (attachment_at (attachments_of a.slots) unit) a.disk a.marks files
+    → StepAt (attachment_at (attachments_of a.slots) unit) a.disk a.aside files
 step-content fault unit a files takes step is =
-    subst (λ (o : Option Attachment). StepAt o a.disk a.marks files) (sym (disk-file (attachments_of a.slots) unit takes is)) step
+    subst (λ (o : Option Attachment). StepAt o a.disk a.aside files) (sym (disk-file (attachments_of a.slots) unit takes is)) step
 
 emptied-at : (attached : List (Option Attachment)) → get_or (set attached 0 None) 0 None ≡ None
 emptied-at [] = refl
@@ -246,7 +246,7 @@ emptied-at (x ∷ attached) = refl
 -- behind a detaching
 pub step-released : (unit : UnitName) (old new : AttachedFiles) (files files' : List NamedBytes) → IsTrue (takes_attachment unit)
     → attachments_of new.slots ≡ detached unit (attachments_of old.slots)
-    → new.disk ≡ (if is_disk unit.kind then no_buffer else old.disk) → new.marks ≡ (if is_disk unit.kind then no_marks else old.marks)
+    → new.disk ≡ (if is_disk unit.kind then no_buffer else old.disk) → new.aside ≡ (if is_disk unit.kind then no_marks else old.aside)
     → files' ≡ files → InStep old files → InStep new files'
 step-released unit old new files files' takes attached copy marks left step = elim (cases_Bool (is_disk unit.kind)) [
   | inl is ↦
@@ -254,12 +254,12 @@ step-released unit old new files files' takes attached copy marks left step = el
       ap (λ (l : List (Option Attachment)). attachment_at l disk_unit) attached
       ∙ ap (λ (place : ℕ). get_or (set (attachments_of old.slots) place None) 0 None) (first-of unit.kind unit.unit is takes)
       ∙ emptied-at (attachments_of old.slots) in
-      subst (λ (o : Option Attachment). StepAt o new.disk new.marks files') (sym none) tt
+      subst (λ (o : Option Attachment). StepAt o new.disk new.aside files') (sym none) tt
   | inr other ↦
-      step-moved (of-disk old) (of-disk new) old.disk new.disk old.marks new.marks files files'
+      step-moved (of-disk old) (of-disk new) old.disk new.disk old.aside new.aside files files'
       (ap (λ (l : List (Option Attachment)). attachment_at l disk_unit) attached ∙ other-file (attachments_of old.slots) unit None other)
       (copy ∙ ap (λ (b : Bool). if b then no_buffer else old.disk) other)
-      (marks ∙ ap (λ (b : Bool). if b then no_marks else old.marks) other) left step
+      (marks ∙ ap (λ (b : Bool). if b then no_marks else old.aside) other) left step
 ]
 
 filled-at : (a : Attachment) (attached : List (Option Attachment)) → 0 < length attached → get_or (set attached 0 (Some a)) 0 None ≡ Some a
@@ -270,18 +270,18 @@ filled-at a (x ∷ attached) some = refl
 pub step-attached : (unit : UnitName) (a : Attachment) (old new : AttachedFiles) (files : List NamedBytes) → IsTrue (takes_attachment unit)
     → is_disk unit.kind ≡ true → 0 < length old.slots
     → attachments_of new.slots ≡ with_attachment (attachments_of old.slots) unit (Some a)
-    → new.disk.bytes ≡ bytes_of files a.name → new.marks ≡ no_marks → IsSome (find_file files a.name) → InStep new files
+    → new.disk.bytes ≡ bytes_of files a.name → new.aside ≡ no_marks → IsSome (find_file files a.name) → InStep new files
 step-attached unit a old new files takes is some attached bytes marks there =
     let here : of-disk new ≡ Some a =
     ap (λ (l : List (Option Attachment)). attachment_at l disk_unit) attached
     ∙ ap (λ (place : ℕ). get_or (set (attachments_of old.slots) place (Some a)) 0 None) (first-of unit.kind unit.unit is takes)
     ∙ filled-at a (attachments_of old.slots) (omega (arith, some, length-map old.slots (λ (slot : Option Held). option_map (λ (h : Held). h.attachment) slot))) in
-    let same : IsInStep a new.disk new.marks files = record {
+    let same : IsInStep a new.disk new.aside files = record {
       there = there;
-      outside = subst (λ (copy : List ℕ). IsCopyOutside copy new.marks (bytes_of files a.name)) (sym bytes) (copy-same (bytes_of files a.name) new.marks);
+      outside = subst (λ (copy : List ℕ). IsCopyOutside copy new.aside (bytes_of files a.name)) (sym bytes) (copy-same (bytes_of files a.name) new.aside);
       unmarked = λ _. marks;
     } in
-    subst (λ (o : Option Attachment). StepAt o new.disk new.marks files) (sym here) same
+    subst (λ (o : Option Attachment). StepAt o new.disk new.aside files) (sym here) same
 
 -- ---- between calls
 
@@ -298,10 +298,10 @@ step-kept (Some a) disk marks files files' same step = record {
 -- the marks cover what has changed of the copy
 pub step-covered : (old new : AttachedFiles) (files : List NamedBytes) → new.slots ≡ old.slots → MarksCover old new → InStep old files → InStep new files
 step-covered old new files slots covers step =
-    subst (λ (l : List (Option Held)). StepAt (attachment_at (attachments_of l) disk_unit) new.disk new.marks files) (sym slots)
+    subst (λ (l : List (Option Held)). StepAt (attachment_at (attachments_of l) disk_unit) new.disk new.aside files) (sym slots)
     (by-file (of-disk old) step)
   where
-    by-file : (o : Option Attachment) → StepAt o old.disk old.marks files → StepAt o new.disk new.marks files
+    by-file : (o : Option Attachment) → StepAt o old.disk old.aside files → StepAt o new.disk new.aside files
     by-file None was = tt
     by-file (Some a) was = record {
       there = was.there;
@@ -312,7 +312,7 @@ step-covered old new files slots covers step =
       unmarked = λ none. (covers.unwritten none).1 ∙ was.unmarked (covers.unwritten none).0;
     }
 
-pub covers-same : (old new : AttachedFiles) → new.disk ≡ old.disk → new.marks ≡ old.marks → MarksCover old new
+pub covers-same : (old new : AttachedFiles) → new.disk ≡ old.disk → new.aside ≡ old.aside → MarksCover old new
 covers-same old new copy marks = record {
   no_shorter = let long = ap (λ (d : Buffer). length d.bytes) copy in omega (arith, long);
   kept = λ page not. ap (λ (l : List Bool). get_or l page false) (sym marks) ∙ not;

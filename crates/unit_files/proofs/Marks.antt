@@ -3,6 +3,7 @@ use Rattle.std.proofs.Common.{◌≡◌, ◌<◌, ◌≤◌, ◌+◌, ◌-◌, �
 use Rattle.std.proofs.lemmas.Bool.{cases_lt}
 use Rattle.std.proofs.lemmas.List.{get_or-drop, get_or-take, get_or_append_left, get_or-append_right, get_or-replicate, length-append, length-drop, length-replicate, length-take-le}
 use Rattle.std.proofs.lemmas.Nat.{div-add-mod', mod_below, div-mul-add}
+use Rattle.unit_files.specs.Aside.{aside_length}
 use Rattle.unit_files.specs.Pages.{page_bytes, disk_pages, no_marks, page_of, marked}
 use Rattle.unit_files.specs.Buffer.{sector_bytes, disk_sectors}
 use Rattle.unit_files.specs.View.{marks_of}
@@ -33,7 +34,7 @@ unfolding sector_bytes
 sector-some = omega arith
 
 pub sector-below : (sector : ℕ) → sector < disk_sectors → page_of (sector * sector_bytes) < disk_pages
-unfolding page_of page_bytes sector_bytes disk_sectors disk_pages
+unfolding page_of page_bytes sector_bytes disk_sectors aside_length
 sector-below sector below = omega (arith, below)
 
 pub page-order : (i j : ℕ) → i ≤ j → page_of i ≤ page_of j

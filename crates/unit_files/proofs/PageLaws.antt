@@ -222,17 +222,17 @@ module _ (marks : List Bool) (bytes piece : List ℕ) (sector : ℕ) (below : se
 
 -- a sector is written where there is a file that may be written
 pub covers-sector : (old new : AttachedFiles) (piece : List ℕ) (sector : ℕ) → sector < disk_sectors → length piece ≡ sector_bytes
-    → length old.marks ≡ disk_pages → new.disk ≡ record { bytes = with_sector old.disk.bytes sector piece; written = true }
-    → new.marks ≡ with_marks old.disk.bytes sector old.marks → MarksCover old new
+    → length old.aside ≡ disk_pages → new.disk ≡ record { bytes = with_sector old.disk.bytes sector piece; written = true }
+    → new.aside ≡ with_marks old.disk.bytes sector old.aside → MarksCover old new
 unfolding with_sector
 covers-sector old new piece sector below long all copy marks = record {
   no_shorter =
       let grown = over-least old.disk.bytes (sector * sector_bytes) piece in
       let is = ap (λ (d : Buffer). length d.bytes) copy in omega (arith, grown, is);
   kept = λ page not.
-      (no-mark old.marks old.disk.bytes piece sector below long all page (ap (λ (l : List Bool). get_or l page false) (sym marks) ∙ not)).0;
+      (no-mark old.aside old.disk.bytes piece sector below long all page (ap (λ (l : List Bool). get_or l page false) (sym marks) ∙ not)).0;
   same = λ page k low not.
-      same-slice old.marks old.disk.bytes piece sector below long all page k low (ap (λ (l : List Bool). get_or l page false) (sym marks) ∙ not)
+      same-slice old.aside old.disk.bytes piece sector below long all page k low (ap (λ (l : List Bool). get_or l page false) (sym marks) ∙ not)
       ∙ ap (λ (d : Buffer). slice_get d.bytes (page * page_bytes + k)) (sym copy);
   unwritten = λ none. let written = ap (λ (d : Buffer). d.written) copy in absurd (cc);
 }

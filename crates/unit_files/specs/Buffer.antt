@@ -8,7 +8,7 @@ use Rattle.unit_trait.specs.declared.kind.UnitName.{UnitName}
 use Rattle.unit_files.specs.declared.faults.SectorAnswer.{SectorAnswer}
 use Rattle.unit_files.specs.declared.faults.SectorAnswer.TheVariants.{Done, NoFile, ReadOnly}
 use Rattle.unit_files.specs.Attachments.{Attachment, Held, no_files}
-use Rattle.unit_files.specs.Pages.{no_marks}
+use Rattle.unit_files.specs.Aside.{Aside, nothing_aside}
 
 pub record Buffer : Type 0 where
   pub bytes : List ℕ
@@ -19,15 +19,15 @@ pub record Buffer : Type 0 where
 abbrev pub no_buffer : Buffer
 no_buffer = record { bytes = []; written = false }
 
--- What is attached to the units, and the disk's copy; and the pages in which something was written since its bytes were read
--- or written back, a mark each from the front, which no definition of what is done speaks of.
+-- What is attached to the units, and the disk's copy; and what the code keeps beside that copy, of which no definition of what
+-- is done speaks.
 pub record AttachedFiles : Type 0 where
   pub slots : List (Option Held)
   pub disk : Buffer
-  pub marks : List Bool
+  pub aside : Aside
 
 abbrev pub nothing_attached : AttachedFiles
-nothing_attached = record { slots = no_files; disk = no_buffer; marks = no_marks }
+nothing_attached = record { slots = no_files; disk = no_buffer; aside = nothing_aside }
 
 abbrev pub disk_unit : UnitName
 disk_unit = record { kind = Dsk; unit = 0 }

@@ -78,13 +78,13 @@ StepAt (Some a) disk marks files = IsInStep a disk marks files
 -- What the disk holds of its file is in step with the file: that is so from the attaching on, as long as nothing else
 -- changes the file.
 abbrev pub InStep : AttachedFiles → List NamedBytes → Type 0
-InStep a files = StepAt (attachment_at (attachments_of a.slots) disk_unit) a.disk a.marks files
+InStep a files = StepAt (attachment_at (attachments_of a.slots) disk_unit) a.disk a.aside files
 
 -- Between two states of the disk's copy no mark was taken away, each page is marked in which the copy has changed, and the
 -- copy has not become shorter. So a file that is in step with the first, and stays as it is, is in step with the second.
 pub record MarksCover (old new : AttachedFiles) : Type 0 where
   pub no_shorter : length old.disk.bytes ≤ length new.disk.bytes
-  pub kept : (page : ℕ) → get_or new.marks page false ≡ false → get_or old.marks page false ≡ false
-  pub same : (page k : ℕ) → k < page_bytes → get_or new.marks page false ≡ false
+  pub kept : (page : ℕ) → get_or new.aside page false ≡ false → get_or old.aside page false ≡ false
+  pub same : (page k : ℕ) → k < page_bytes → get_or new.aside page false ≡ false
       → slice_get old.disk.bytes (page * page_bytes + k) ≡ slice_get new.disk.bytes (page * page_bytes + k)
-  pub unwritten : new.disk.written ≡ false → (old.disk.written ≡ false) × (new.marks ≡ old.marks)
+  pub unwritten : new.disk.written ≡ false → (old.disk.written ≡ false) × (new.aside ≡ old.aside)

@@ -1,4 +1,5 @@
 pub mod Attachments
+pub mod Aside
 pub mod Pages
 pub mod Buffer
 pub mod Acts

@@ -1,18 +1,19 @@
 -- The pages in which the disk's copy of its file is written back, and which of them are marked. No definition of what is done
 -- speaks of them: they are the way of the code, and what they come to is a content alone.
 use Rattle.std.specs.Prelude.{ℕ, ◌+◌, ◌-◌, ◌/◌, ◌^◌, Bool, true, false, List, ◌++◌, take, drop, replicate}
+use Rattle.unit_files.specs.Aside.{aside_length, nothing_aside}
 
 -- how many bytes a page of the copy has
 unfoldable pub page_bytes : ℕ
 page_bytes = 2 ^ 12
 
 -- how many pages the disk has
-unfoldable pub disk_pages : ℕ
-disk_pages = 2 ^ 10
+abbrev pub disk_pages : ℕ
+disk_pages = aside_length
 
 -- no page is marked
 abbrev pub no_marks : List Bool
-no_marks = replicate disk_pages false
+no_marks = nothing_aside
 
 -- the page of a byte
 unfoldable pub page_of : ℕ → ℕ

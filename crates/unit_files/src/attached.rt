@@ -51,7 +51,7 @@ impl Model for Attached {
     ghost view = { λ a. record {
       slots = map slot_of a.slots.items;
       disk = buffer_of a.disk;
-      marks = marks_of a.disk.marks.items;
+      aside = marks_of a.disk.marks.items;
     } };
 
     ghost invariant = { λ a. (length a.slots.items ≡ file_units) × IsTrue (writers_write (map slot_of a.slots.items))
@@ -104,10 +104,10 @@ impl Attached {
             ≡ buffer_by said unit (bytes_of (F.state files.new).files name.now) self.old.disk) }
         ensures there { IfOk result (λ n. IsTrue (is_some (attachment_at (attachments_of self.new.slots) unit))) }
         ensures unwritten { IfOk result (λ n. is_disk unit.kind ≡ true → self.new.disk.written ≡ false) }
-        ensures unmarked { IfOk result (λ n. is_disk unit.kind ≡ true → self.new.marks ≡ no_marks) }
+        ensures unmarked { IfOk result (λ n. is_disk unit.kind ≡ true → self.new.aside ≡ no_marks) }
         ensures step { IsTrue F.tells → OnOk result (is_disk unit.kind ≡ true → InStep self.new (F.state files.new).files) }
         ensures other { is_disk unit.kind ≡ false → self.new.disk ≡ self.old.disk }
-        ensures other_marks { is_disk unit.kind ≡ false → self.new.marks ≡ self.old.marks }
+        ensures other_marks { is_disk unit.kind ≡ false → self.new.aside ≡ self.old.aside }
         ensures refused { OnErr result (self.new ≡ self.old) }
         ensures files { IsTrue F.tells → IfSome (said_of_attach result) (λ said. (F.state files.new).files
             ≡ attach_files (failure_of_attach result) mode unit name.now (attachments_of self.old.slots)
@@ -167,11 +167,11 @@ impl Attached {
         ensures attached { attachments_of self.new.slots
             ≡ detached_by (said_of_detach result) unit (attachments_of self.old.slots) }
         ensures disk { self.new.disk ≡ buffer_left (said_of_detach result) unit self.old.disk }
-        ensures marks { self.new.marks ≡ marks_left (said_of_detach result) unit self.old.marks }
+        ensures marks { self.new.aside ≡ marks_left (said_of_detach result) unit self.old.aside }
         ensures refused { OnErr result (self.new ≡ self.old) }
         ensures part { OnErr result (IsPart (failure_of_detach result) self.old.disk) }
         ensures pages { (F.state files.new).files ≡ pages_flushed (failure_of_detach result) unit
-            (attachment_at (attachments_of self.old.slots) unit) self.old.disk self.old.marks (F.state files.old).files }
+            (attachment_at (attachments_of self.old.slots) unit) self.old.disk self.old.aside (F.state files.old).files }
         ensures files { InStep self.old (F.state files.old).files → (F.state files.new).files
             ≡ flush_files (failure_of_detach result) unit (attachment_at (attachments_of self.old.slots) unit)
             self.old.disk (F.state files.old).files }
@@ -201,10 +201,10 @@ impl Attached {
             (attachment_at (attachments_of self.old.slots) unit) self.old.disk }
         ensures slots { self.new.slots ≡ self.old.slots }
         ensures disk { self.new.disk ≡ buffer_flushed (said_of_flush result) unit self.old.disk }
-        ensures marks { self.new.marks ≡ marks_flushed (said_of_flush result) unit self.old.marks }
+        ensures marks { self.new.aside ≡ marks_flushed (said_of_flush result) unit self.old.aside }
         ensures part { OnErr result (IsPart (failure_of_flush result) self.old.disk) }
         ensures pages { (F.state files.new).files ≡ pages_flushed (failure_of_flush result) unit
-            (attachment_at (attachments_of self.old.slots) unit) self.old.disk self.old.marks (F.state files.old).files }
+            (attachment_at (attachments_of self.old.slots) unit) self.old.disk self.old.aside (F.state files.old).files }
         ensures files { InStep self.old (F.state files.old).files → (F.state files.new).files
             ≡ flush_files (failure_of_flush result) unit (attachment_at (attachments_of self.old.slots) unit)
             self.old.disk (F.state files.old).files }
@@ -241,7 +241,7 @@ impl Attached {
         requires open { AllOpen self.old.slots (F.state files.old).opened }
         ensures attached { attachments_of self.new.slots ≡ detached unit (attachments_of self.old.slots) }
         ensures disk { self.new.disk ≡ (if is_disk unit.kind then no_buffer else self.old.disk) }
-        ensures marks { self.new.marks ≡ (if is_disk unit.kind then no_marks else self.old.marks) }
+        ensures marks { self.new.aside ≡ (if is_disk unit.kind then no_marks else self.old.aside) }
         ensures files { (F.state files.new).files ≡ (F.state files.old).files }
         ensures open { AllOpen self.new.slots (F.state files.new).opened }
         ensures around { (base : List Opened) → Around self.old.slots base (F.state files.old).opened
@@ -347,7 +347,7 @@ impl Attached {
             ≡ with_attachment (attachments_of self.old.slots) unit (Some (held_of held).attachment) }
         ensures disk { self.new.disk ≡ (if is_disk unit.kind
             then record { bytes = copy.bytes.items; written = false } else self.old.disk) }
-        ensures marks { self.new.marks ≡ (if is_disk unit.kind then no_marks else self.old.marks) }
+        ensures marks { self.new.aside ≡ (if is_disk unit.kind then no_marks else self.old.aside) }
     {
         self.slots[place_of(unit)] = Some(held);
         if is_disk(unit.kind) {
@@ -361,7 +361,7 @@ impl Attached {
         ensures held { self.new.slots ≡ with_held self.old.slots unit None }
         ensures attachments { attachments_of self.new.slots ≡ with_attachment (attachments_of self.old.slots) unit None }
         ensures disk { self.new.disk ≡ (if is_disk unit.kind then no_buffer else self.old.disk) }
-        ensures marks { self.new.marks ≡ (if is_disk unit.kind then no_marks else self.old.marks) }
+        ensures marks { self.new.aside ≡ (if is_disk unit.kind then no_marks else self.old.aside) }
     {
         self.slots[place_of(unit)] = None;
         if is_disk(unit.kind) {

@@ -41,11 +41,11 @@ impl Attached {
         ensures slots { self.new.slots ≡ self.old.slots }
         ensures disk { self.new.disk ≡ buffer_digested (failure_of_digest result) unit
             (attachment_at (attachments_of self.old.slots) unit) self.old.disk }
-        ensures marks { self.new.marks ≡ marks_digested (failure_of_digest result) unit
-            (attachment_at (attachments_of self.old.slots) unit) self.old.disk self.old.marks }
+        ensures marks { self.new.aside ≡ marks_digested (failure_of_digest result) unit
+            (attachment_at (attachments_of self.old.slots) unit) self.old.disk self.old.aside }
         ensures part { OnErr result (IsPart (failure_of_digest result) self.old.disk) }
         ensures pages { (F.state files.new).files ≡ pages_flushed (failure_of_digest result) unit
-            (attachment_at (attachments_of self.old.slots) unit) self.old.disk self.old.marks (F.state files.old).files }
+            (attachment_at (attachments_of self.old.slots) unit) self.old.disk self.old.aside (F.state files.old).files }
         ensures files { InStep self.old (F.state files.old).files → (F.state files.new).files
             ≡ flush_files (failure_of_digest result) unit (attachment_at (attachments_of self.old.slots) unit)
             self.old.disk (F.state files.old).files }

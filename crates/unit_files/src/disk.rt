@@ -43,8 +43,8 @@ impl Attached {
         ensures slots { self.new.slots ≡ self.old.slots }
         ensures disk { self.new.disk ≡ sector_written (attachment_at (attachments_of self.old.slots) disk_unit)
             self.old.disk sector from.now }
-        ensures marks { self.new.marks ≡ marks_written (attachment_at (attachments_of self.old.slots) disk_unit)
-            self.old.disk.bytes sector self.old.marks }
+        ensures marks { self.new.aside ≡ marks_written (attachment_at (attachments_of self.old.slots) disk_unit)
+            self.old.disk.bytes sector self.old.aside }
         ensures covers { MarksCover self.old self.new }
     {
         if self.held_file(DISK).is_none() {

@@ -39,7 +39,7 @@ impl DiskCopy {
 
     /// With room for all pages of the disk, and nothing in them. This is the only call that takes memory for a copy.
     /// What it takes is not written, but for the marks, so that the system need not give it before there are bytes.
-    #[tactic(auto, unfolding(crate::specs::Buffer::disk_bytes, crate::specs::Pages::disk_pages))]
+    #[tactic(auto, unfolding(crate::specs::Buffer::disk_bytes, crate::specs::Aside::aside_length))]
     pub(crate) fn with_pages(alloc: Global) -> Result<DiskCopy, AllocError>
         ensures { IfOk result IsEmptyCopy }
     {

@@ -1,13 +1,18 @@
-use Rattle.std.proofs.Common.{Err, ◌≡◌, ap, sym, subst, ◌∙◌}
-use Rattle.unit_files.specs.Attachments.{attachments_of}
-use Rattle.file_commands.specs.Notes.{notes_said}
+use Rattle.std.proofs.Common.{Bool, List, Option, Some, None, is_none, Err, ◌≡◌, refl, ap, sym, subst, ◌∙◌, if◌then◌else◌}
+use Rattle.unit_files.specs.Attachments.{Attachment, attachments_of, attachment_at}
+use Rattle.file_commands.specs.Notes.{notes_said, failure_now}
+use Rattle.file_commands.specs.declared.note.Subject.TheVariants as subject
+use Rattle.file_commands.specs.Kept.{fault_of_detach, own_of}
 use Rattle.unit_files.specs.Buffer.{AttachedFiles}
 use Rattle.unit_files.specs.InStep.{InStep}
 use Rattle.nova_machine.specs.Machine.{with_attached_files}
-use Rattle.nova_machine.specs.Seen.{seen, beside}
+use Rattle.nova_machine.specs.Seen.{seen, beside, attached_in}
+use Rattle.command_session.specs.declared.fault.CommandFault.TheVariants.{NoSuchName, NotAttached}
+use Rattle.command_session.specs.Reply.{Answer}
+use Rattle.command_session.specs.Answers.{IsByTables, OfUnit}
 use Rattle.command_session.proofs.SeenLemmas.{attached-erased}
 use Rattle.command_session.proofs.BehindLemmas.{stamp_in}
-use Rattle.host_commands.proofs.DetachLemmas.{detach_result, detached-live, detach-done, detach-lacking, detach-keeps}
+use Rattle.host_commands.proofs.DetachLemmas.{detach_result, detached-live, detach-done, detach-lacking, detach-keeps, detach-tables, detach-can}
 use Rattle.host_commands.proofs.unit_commands.detach.Goals as goal
 use Rattle.host_commands.proofs.unit_commands.detach.Goals.{in-Ok, in-Err}
 
@@ -58,3 +63,38 @@ returns-clause-step g c =
     rw (← c.session.view_is) (λ step.
     c.detach_unit.ensures.step
     (subst (λ (a : AttachedFiles). InStep a (g.F.Files.state c.args.files.now).files) (sym c.attached_mut.ensures.value) step))
+
+-- ---- the answer, whatever files tell
+
+pub returns-then-lacks_unit-clause-tables : goal.returns-then-lacks_unit-clause-tables
+returns-then-lacks_unit-clause-tables g c =
+    rw (← c.session.view_is)
+    (subst (λ (b : Bool). IsByTables (if b then Some NoSuchName else if is_none (attachment_at (attached_in c.session.inside.machine) c.args.unit) then Some NotAttached else None) (Err NoSuchName))
+    (sym (sym c.lacks_unit.ensures ∙ c.if-lacks_unit.true)) refl)
+
+pub returns-clause-tables : goal.returns-clause-tables
+returns-clause-tables g c =
+    let answered : c.match-detach_unit.result ≡ detach_result c.detach_unit.result = elim c.match-detach_unit.branch [
+      | in-Ok w ↦ w.result-is ∙ sym (ap detach_result w.in-Ok.is)
+      | in-Err w ↦ w.result-is ∙ ap Err w.of_detach.ensures ∙ sym (ap detach_result w.in-Err.is)
+    ] in
+    let s = c.session.inside in
+    let unit = c.args.unit in
+    let r = c.detach_unit.result in
+    let held = c.attached_mut.result.now in
+    let time = c.stamp_of-stamp.result.time in
+    let are = ap (λ (a : AttachedFiles). attachments_of a.slots) c.attached_mut.ensures.value in
+    rw (← c.session.view_is)
+    (subst (λ (b : Bool). IsByTables (if b then Some NoSuchName else if is_none (attachment_at (attached_in s.machine) unit) then Some NotAttached else None) c.match-detach_unit.result)
+    (sym (sym c.lacks_unit.ensures ∙ c.if-lacks_unit.false))
+    (subst (λ (a : Answer). IsByTables (if is_none (attachment_at (attached_in s.machine) unit) then Some NotAttached else None) a) (sym answered)
+    (subst (λ (l : List (Option Attachment)). IsByTables (if is_none (attachment_at l unit) then Some NotAttached else None) (detach_result r)) are
+    (detach-tables (failure_now time (subject.Unit unit) (own_of time (fault_of_detach r))) unit (attachments_of held.slots) held.disk r c.detach_unit.ensures.said))))
+
+pub returns-clause-answers : goal.returns-clause-answers
+returns-clause-answers g c =
+    let answered : c.match-detach_unit.result ≡ detach_result c.detach_unit.result = elim c.match-detach_unit.branch [
+      | in-Ok w ↦ w.result-is ∙ sym (ap detach_result w.in-Ok.is)
+      | in-Err w ↦ w.result-is ∙ ap Err w.of_detach.ensures ∙ sym (ap detach_result w.in-Err.is)
+    ] in
+    subst (λ (a : Answer). OfUnit c.args.unit a) (sym answered) (detach-can c.args.unit c.detach_unit.result c.detach_unit.ensures.own)

@@ -7,6 +7,7 @@ use Rattle.command_session.specs.Live.{CommandState, live_in, beyond}
 use Rattle.command_session.specs.LineEffects.{is_terminal, detach_port_reply}
 use Rattle.command_session.specs.FileEffects.{detach_reply, detach_all_reply, detach_one_or_all}
 use Rattle.command_session.specs.Nature.Telling.{Nothing, Ported}
+use Rattle.command_session.specs.Answers.{AnswersByTables, detach_tables, OfDetach, of_unit}
 use Rattle.command_session.specs.Doing.{told_by, IsTold}
 use Rattle.command_session.proofs.DidLemmas.{did-as, did-of}
 use Rattle.command_session.proofs.KeptLemmas.{lines-kept, keeps-none, port-no-file}
@@ -93,3 +94,33 @@ pub returns-in-Some-clause-step : goal.returns-in-Some-clause-step
 returns-in-Some-clause-step g c =
     let files = (g.F.Files.state c.args.files.now).files in
     step-unchanged c.args.session.now c.detach_port.new.session files files c.detach_port.ensures.attached refl
+
+-- ---- the answer, whatever files tell
+
+pub returns-in-Some-clause-tables : goal.returns-in-Some-clause-tables
+returns-in-Some-clause-tables g c =
+    let m = c.args.session.now.machine in
+    let is : is_terminal c.in-Some.unit ≡ true = sym c.is_terminal.ensures ∙ c.if-is_terminal.true in
+    subst (λ (u : Option UnitName). AnswersByTables m (Detach u) c.detach_port.result) (sym c.in-Some.is)
+    (subst (λ (b : Bool). detach_tables b m c.in-Some.unit c.detach_port.result) (sym is) tt)
+
+pub returns-in-Some-clause-answers : goal.returns-in-Some-clause-answers
+returns-in-Some-clause-answers g c =
+    let is : is_terminal c.in-Some.unit ≡ true = sym c.is_terminal.ensures ∙ c.if-is_terminal.true in
+    subst (λ (u : Option UnitName). OfDetach u c.detach_port.result) (sym c.in-Some.is)
+    (subst (λ (b : Bool). of_unit b c.in-Some.unit c.detach_port.result) (sym is) c.detach_port.ensures.answers)
+
+pub returns-in-Some-2-clause-tables : goal.returns-in-Some-2-clause-tables
+returns-in-Some-2-clause-tables g c =
+    let m = c.args.session.now.machine in
+    let same : c.in-Some.unit ≡ c.in-Some-2.unit = same_Some c.in-Some.unit c.in-Some-2.unit (sym c.in-Some.is ∙ c.in-Some-2.is) in
+    let other : is_terminal c.in-Some-2.unit ≡ false = ap is_terminal (sym same) ∙ sym c.is_terminal.ensures ∙ c.if-is_terminal.false in
+    subst (λ (u : Option UnitName). AnswersByTables m (Detach u) c.detach.result) (sym c.in-Some-2.is)
+    (subst (λ (b : Bool). detach_tables b m c.in-Some-2.unit c.detach.result) (sym other) c.detach.ensures.tables)
+
+pub returns-in-Some-2-clause-answers : goal.returns-in-Some-2-clause-answers
+returns-in-Some-2-clause-answers g c =
+    let same : c.in-Some.unit ≡ c.in-Some-2.unit = same_Some c.in-Some.unit c.in-Some-2.unit (sym c.in-Some.is ∙ c.in-Some-2.is) in
+    let other : is_terminal c.in-Some-2.unit ≡ false = ap is_terminal (sym same) ∙ sym c.is_terminal.ensures ∙ c.if-is_terminal.false in
+    subst (λ (u : Option UnitName). OfDetach u c.detach.result) (sym c.in-Some-2.is)
+    (subst (λ (b : Bool). of_unit b c.in-Some-2.unit c.detach.result) (sym other) c.detach.ensures.answers)

@@ -202,5 +202,5 @@ returns-in-Ok-clause-unmarked g t c = λ none. c.in-Ok.ensures.unmarked (c.in_ok
 
 pub returns-in-Err-clause-unmarked : goal.returns-in-Err-clause-unmarked
 returns-in-Err-clause-unmarked g t c = λ none.
-    unmarked-if (is_disk c.unit_of.result.kind) c.attach_each.new.attached.marks c.give_back.new.attached.marks c.give_back.ensures.marks
+    unmarked-if (is_disk c.unit_of.result.kind) c.attach_each.new.attached.aside c.give_back.new.attached.aside c.give_back.ensures.marks
     (c.in-Err.ensures.unmarked (c.in_ok-attach_one-in-Some.ensures.unmarked none))

@@ -85,5 +85,5 @@ returns-in-Some-clause-once g t c =
 
 pub returns-in-Some-clause-unmarked : goal.returns-in-Some-clause-unmarked
 returns-in-Some-clause-unmarked g t c = λ none.
-    unmarked-if (is_disk c.unit_of.result.kind) c.give_back_all.new.attached.marks c.give_back.new.attached.marks
+    unmarked-if (is_disk c.unit_of.result.kind) c.give_back_all.new.attached.aside c.give_back.new.attached.aside
     c.give_back.ensures.marks (c.give_back_all.ensures.unmarked none)

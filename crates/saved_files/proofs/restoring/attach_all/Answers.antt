@@ -2,7 +2,7 @@ use Rattle.std.proofs.Common.{◌≡◌, sym, ap, ◌∙◌, List, Result}
 use Rattle.std.specs.Prelude.{Ok, Err, OnErr}
 use Rattle.file_traits.specs.State.{Opened}
 use Rattle.unit_files.specs.Attachments.{attachments_of, no_files}
-use Rattle.unit_files.specs.Pages.{no_marks}
+use Rattle.unit_files.specs.Aside.{nothing_aside}
 use Rattle.unit_files.specs.Buffer.{AttachedFiles, no_buffer, nothing_attached}
 use Rattle.unit_files.specs.Open.{Around}
 use Rattle.saved_files.specs.declared.file_faults.RestoreFault.{RestoreFault}
@@ -20,8 +20,8 @@ slots-of a is = ap (λ (x : AttachedFiles). x.slots) is
 disk-of : (a : AttachedFiles) → a ≡ nothing_attached → a.disk ≡ no_buffer
 disk-of a is = ap (λ (x : AttachedFiles). x.disk) is
 
-marks-of : (a : AttachedFiles) → a ≡ nothing_attached → a.marks ≡ no_marks
-marks-of a is = ap (λ (x : AttachedFiles). x.marks) is
+marks-of : (a : AttachedFiles) → a ≡ nothing_attached → a.aside ≡ nothing_aside
+marks-of a is = ap (λ (x : AttachedFiles). x.aside) is
 
 pub attach_each-requires-clause-can : goal.attach_each-requires-clause-can
 attach_each-requires-clause-can g c = each-can (place_of 0 0) (files_in c.args.saved.now) c.requires.valid.each
@@ -40,13 +40,13 @@ attach_each-requires-clause-clean g c =
 -- a refusal leaves nothing attached, and closes what it opened
 is-refused : (result : Result (Unit {0}) RestoreFault) (old new : AttachedFiles) → old ≡ nothing_attached
     → OnErr result (attachments_of new.slots ≡ attachments_of old.slots) → OnErr result (new.disk ≡ old.disk)
-    → (old.marks ≡ no_marks → new.marks ≡ no_marks) → OnErr result (new ≡ old)
+    → (old.aside ≡ nothing_aside → new.aside ≡ nothing_aside) → OnErr result (new ≡ old)
 is-refused (Ok u) old new is slots disk unmarked = tt
 is-refused (Err f) old new is slots disk unmarked =
     let same : new.slots ≡ old.slots =
     nothing-held new.slots old.slots (slots-of old is) slots ∙ sym (slots-of old is) in
-    let marks : new.marks ≡ old.marks = unmarked (marks-of old is) ∙ sym (marks-of old is) in
-    λ i. record { slots = same i; disk = disk i; marks = marks i }
+    let aside : new.aside ≡ old.aside = unmarked (marks-of old is) ∙ sym (marks-of old is) in
+    λ i. record { slots = same i; disk = disk i; aside = aside i }
 
 is-closed : (result : Result (Unit {0}) RestoreFault) (old new : AttachedFiles) (before after : List Opened)
     → old ≡ nothing_attached → OnErr result (attachments_of new.slots ≡ attachments_of old.slots)

@@ -151,7 +151,7 @@ returns-in-Err-OutOfMemory-clause-exact g c =
 
 pub returns-in-Ok-clause-unmarked : goal.returns-in-Ok-clause-unmarked
 returns-in-Ok-clause-unmarked g c =
-    unmarked-behind c.unit_of-unit.result c.args.attached.now.marks c.attach.new.self.marks c.in-Ok.ensures.unmarked c.in-Ok.ensures.other_marks
+    unmarked-behind c.unit_of-unit.result c.args.attached.now.aside c.attach.new.self.aside c.in-Ok.ensures.unmarked c.in-Ok.ensures.other_marks
 
 pub returns-in-Ok-clause-step : goal.returns-in-Ok-clause-step
 returns-in-Ok-clause-step g c = λ t step. elim (cases_Bool (is_disk c.unit_of-unit.result.kind)) [

@@ -152,9 +152,9 @@ returns-in-Ok-clause-step g c = λ t step.
 
 pub returns-in-Ok-clause-unmarked : goal.returns-in-Ok-clause-unmarked
 returns-in-Ok-clause-unmarked g c = λ none.
-    ap (λ (a : AttachedFiles). a.marks) c.in-Ok.ensures.kept ∙ c.in_ok-attach_file.ensures.unmarked none
+    ap (λ (a : AttachedFiles). a.aside) c.in-Ok.ensures.kept ∙ c.in_ok-attach_file.ensures.unmarked none
 
 pub returns-in-Err-clause-unmarked : goal.returns-in-Err-clause-unmarked
 returns-in-Err-clause-unmarked g c = λ none.
-    unmarked-if (is_disk c.unit_of.result.kind) c.compare.new.attached.marks c.give_back.new.attached.marks c.give_back.ensures.marks
-    (ap (λ (a : AttachedFiles). a.marks) c.in-Err.ensures.kept ∙ c.in_ok-attach_file.ensures.unmarked none)
+    unmarked-if (is_disk c.unit_of.result.kind) c.compare.new.attached.aside c.give_back.new.attached.aside c.give_back.ensures.marks
+    (ap (λ (a : AttachedFiles). a.aside) c.in-Err.ensures.kept ∙ c.in_ok-attach_file.ensures.unmarked none)

@@ -9,7 +9,7 @@ pub returns-clause-files : goal.returns-clause-files
 returns-clause-files g c =
     c.detach-closing.ensures.pages
     ∙ none-flushed (failure_of_detach c.detach-closing.result) c.args.unit
-    (attachment_at (attachments_of c.args.attached.now.slots) c.args.unit) c.args.attached.now.disk c.args.attached.now.marks
+    (attachment_at (attachments_of c.args.attached.now.slots) c.args.unit) c.args.attached.now.disk c.args.attached.now.aside
     (g.F.Files.state c.args.files.now).files c.requires.clean
 
 pub returns-clause-attached : goal.returns-clause-attached

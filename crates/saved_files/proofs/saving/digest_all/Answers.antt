@@ -45,8 +45,8 @@ returns-in-Err-digest_each-clause-disk g c =
 
 pub returns-in-Err-digest_each-clause-marks : goal.returns-in-Err-digest_each-clause-marks
 returns-in-Err-digest_each-clause-marks g c =
-    ap (λ (a : AttachedFiles). a.marks) c.in-Err-digest_each.ensures.kept ∙ c.in-Ok-write_back.ensures.marks
-    ∙ reading-marks c.in-Err-digest_each.fault (attachments_of c.args.attached.now.slots) c.args.attached.now.disk c.args.attached.now.marks
+    ap (λ (a : AttachedFiles). a.aside) c.in-Err-digest_each.ensures.kept ∙ c.in-Ok-write_back.ensures.marks
+    ∙ reading-marks c.in-Err-digest_each.fault (attachments_of c.args.attached.now.slots) c.args.attached.now.disk c.args.attached.now.aside
     c.in-Err-digest_each.ensures.calls
 
 pub returns-in-Err-digest_each-clause-files : goal.returns-in-Err-digest_each-clause-files

@@ -7,7 +7,7 @@ use Rattle.scp_commands.specs.Effect.{effect}
 use Rattle.command_session.proofs.KeptLemmas.{lines-kept}
 use Rattle.scp_commands.proofs.ObeyLemmas.{noted-did, save-named, restore-named, as-kept}
 use Rattle.command_session.proofs.ListenLemmas.{unlistened, own-no-port}
-use Rattle.command_session.specs.Nature.{nature}
+use Rattle.command_session.specs.Nature.{nature, IsUntold}
 use Rattle.command_session.specs.Doing.{says_files, IsTold, IsUndone, KeepsBy, is_restore, OpensOwn, opens_of, Did}
 use Rattle.host_commands.proofs.HostLemmas.{kept-as}
 use Rattle.command_session.specs.Remains.{AreLeft}
@@ -17,6 +17,8 @@ use Rattle.command_session.specs.LinesLeft.{IsUnlistened, ListenCause}
 use Rattle.command_session.specs.Refusals.{IsUnrefused, IsMeasured}
 use Rattle.scp_commands.proofs.BackLemmas.{done-back}
 use Rattle.command_session.proofs.RemainLemmas.{undone-as}
+use Rattle.command_session.proofs.StepLemmas.{stays-alone}
+use Rattle.command_session.proofs.GrowLemmas.{grows-same}
 use Rattle.file_commands.specs.declared.note.Subject.TheVariants as subject
 use Rattle.nova_machine.specs.Comes.{output}
 use Rattle.scp_commands.specs.LineAnswers.{LinesAnswer}
@@ -30,7 +32,7 @@ use Rattle.scp_commands.proofs.execute_command.obey.Goals as goal
 
 pub returns-in-Save-clause-told : goal.returns-in-Save-clause-told
 unfolding effect
-returns-in-Save-clause-told g c = λ told whole first.
+returns-in-Save-clause-told g c = λ told step whole first.
     let s = c.args.session.now in
     let ports = g.L.Lines.state c.args.lines.now in
     let new = c.save.new.session in
@@ -40,7 +42,7 @@ returns-in-Save-clause-told g c = λ told whole first.
     let is = save-named _ c.command.inside.verb _ c.args.command.now name (sym c.command.view_is) c.in-Save.is c.file_name.ensures.name in
     noted-did s.limit s.command live (live_in new (beyond (g.F.Files.state c.save.new.files).files ports whole)) c.args.command.now (Save name)
     (λ own. save_reply own live name) c.save.result g.S.Sink.tells text text (notes_said s.notes) (notes_said new.notes) is (λ own. refl)
-    (c.save.ensures.told ports whole g.S.Sink.tells text (subst (λ (r : Request). IsTold g.F.Files.tells s.machine.slots g.L.Lines.tells ports s.machine.lines r) is told))
+    (c.save.ensures.told (subst (λ (r : Request). IsTold g.F.Files.tells s.machine.slots g.L.Lines.tells ports s.machine.lines r) is told) step ports whole g.S.Sink.tells text)
 
 pub returns-in-Save-clause-lines : goal.returns-in-Save-clause-lines
 returns-in-Save-clause-lines g c =
@@ -77,7 +79,7 @@ returns-in-Save-clause-keeps g c =
 
 pub returns-in-Restore-clause-told : goal.returns-in-Restore-clause-told
 unfolding effect
-returns-in-Restore-clause-told g c = λ told whole first.
+returns-in-Restore-clause-told g c = λ told step whole first.
     let s = c.args.session.now in
     let ports = g.L.Lines.state c.args.lines.now in
     let ports' = g.L.Lines.state c.restore.new.lines in
@@ -197,3 +199,34 @@ obey_stateless-requires g c =
     let none : IsNoState c.command.inside.verb = record { save = c.in_default.not-Save; restore = c.in_default.not-Restore } in
     let less = subst (λ (r : Request). IsStateless r) c.command.view_is (is-stateless _ c.command.inside.verb none) in
     record { room = c.requires.room; part = less; «open» = c.requires.«open» }
+
+-- ---- the disk's file stays in step with the copy of it, and the console grows
+
+pub returns-in-Save-clause-step : goal.returns-in-Save-clause-step
+returns-in-Save-clause-step g c = λ told.
+    let s = c.args.session.now in
+    let asks = sym c.command.view_is ∙ ap (request_of _) c.in-Save.is in
+    c.save.ensures.step (subst (λ (r : Request). IsTold g.F.Files.tells s.machine.slots g.L.Lines.tells (g.L.Lines.state c.args.lines.now) s.machine.lines r) asks told)
+
+pub returns-in-Restore-clause-step : goal.returns-in-Restore-clause-step
+returns-in-Restore-clause-step g c = λ told.
+    let s = c.args.session.now in
+    let asks = sym c.command.view_is ∙ ap (request_of _) c.in-Restore.is in
+    let all = subst (λ (r : Request). IsTold g.F.Files.tells s.machine.slots g.L.Lines.tells (g.L.Lines.state c.args.lines.now) s.machine.lines r) asks told in
+    stays-alone s c.restore.new.session (g.F.Files.state c.args.files.now).files (g.F.Files.state c.restore.new.files).files (c.restore.ensures.step all.0)
+
+pub returns-in-Save-clause-grows : goal.returns-in-Save-clause-grows
+returns-in-Save-clause-grows g c = grows-same g.S.Sink.tells (g.S.Sink.written c.args.out.now) (g.S.Sink.written c.args.out.now) refl
+
+pub returns-in-Restore-clause-grows : goal.returns-in-Restore-clause-grows
+returns-in-Restore-clause-grows g c = grows-same g.S.Sink.tells (g.S.Sink.written c.args.out.now) (g.S.Sink.written c.args.out.now) refl
+
+-- ---- neither is a command that works on no file and no line
+
+pub returns-in-Save-clause-untold : goal.returns-in-Save-clause-untold
+returns-in-Save-clause-untold g c = λ untold.
+    let is = subst IsUntold (sym c.command.view_is ∙ ap (request_of _) c.in-Save.is) untold in absurd (cc is.0)
+
+pub returns-in-Restore-clause-untold : goal.returns-in-Restore-clause-untold
+returns-in-Restore-clause-untold g c = λ untold.
+    let is = subst IsUntold (sym c.command.view_is ∙ ap (request_of _) c.in-Restore.is) untold in absurd (cc is.0)

@@ -1,4 +1,4 @@
-use Rattle.std.proofs.Common.{ap, sym, subst}
+use Rattle.std.proofs.Common.{[], refl, ap, sym, subst}
 use Rattle.file_commands.specs.Notes.{notes_said}
 use Rattle.file_commands.proofs.OwnFiles.{unused}
 use Rattle.unit_files.specs.Open.{AllOpen, Around}
@@ -11,6 +11,8 @@ use Rattle.command_session.proofs.KeptLemmas.{lines-kept}
 use Rattle.command_session.proofs.ListenLemmas.{unlistening, unlistened, run-no-port}
 use Rattle.command_session.proofs.PortLemmas.{left-run}
 use Rattle.command_session.proofs.RemainLemmas.{leaves}
+use Rattle.command_session.proofs.StepLemmas.{step-unchanged, stays-alone}
+use Rattle.command_session.proofs.GrowLemmas.{grows-same, grows-did}
 use Rattle.run_control.specs.RunEffect.{run_effect}
 use Rattle.host_commands.specs.HostEffect.{host_effect}
 use Rattle.plain_commands.specs.UntoldEffect.{untold_effect}
@@ -21,7 +23,7 @@ use Rattle.scp_commands.proofs.WorkLemmas.{untold-works}
 use Rattle.command_session.specs.Doing.{OpensNone}
 use Rattle.host_commands.proofs.HostLemmas.{kept-as}
 use Rattle.scp_commands.proofs.ObeyLemmas.{run-opens, untold-opens}
-use Rattle.scp_commands.proofs.ObeyLemmas.{run-is, run-told, run-no-listener, run-line, run-measured, run-works, run-note}
+use Rattle.scp_commands.proofs.ObeyLemmas.{run-no-untold, host-no-untold, run-is, run-told, run-no-listener, run-line, run-measured, run-works, run-note}
 use Rattle.scp_commands.proofs.ObeyLemmas.{host-is, host-line, host-works, host-counts, host-ran, host-stops, host-no-fault}
 use Rattle.scp_commands.proofs.ObeyLemmas.{untold-is, untold-measured, untold-note, untold-no-port, untold-no-fault, untold-ran, untold-stops}
 use Rattle.scp_commands.proofs.execute_command.obey_stateless.Goals as goal
@@ -32,7 +34,7 @@ returns-in-Run-clause-refused g c = λ is.
     leaves (nature c.args.command.now).flushes c.args.session.now c.obey_run.new.session same.0 same.1
 
 pub returns-in-Run-clause-told : goal.returns-in-Run-clause-told
-returns-in-Run-clause-told g c = λ told whole first.
+returns-in-Run-clause-told g c = λ told step whole first.
     let s = c.args.session.now in
     let new = c.obey_run.new.session in
     let live = live_in s (beyond (g.F.Files.state c.args.files.now).files (g.L.Lines.state c.args.lines.now) whole) in
@@ -74,13 +76,13 @@ returns-in-Host-clause-refused g c = λ is.
     leaves (nature c.args.command.now).flushes c.args.session.now c.obey_host.new.session same.0 same.1
 
 pub returns-in-Host-clause-told : goal.returns-in-Host-clause-told
-returns-in-Host-clause-told g c = λ told whole first.
+returns-in-Host-clause-told g c = λ told step whole first.
     let s = c.args.session.now in
     let new = c.obey_host.new.session in
     let live = live_in s (beyond (g.F.Files.state c.args.files.now).files (g.L.Lines.state c.args.lines.now) whole) in
     did-as (λ own. effect s.limit own live c.args.command.now) (λ own. host_effect own live c.args.command.now) s.command c.obey_host.result (live_in new (beyond (g.F.Files.state c.obey_host.new.files).files (g.L.Lines.state c.obey_host.new.lines) whole)) g.S.Sink.tells
     (output (g.S.Sink.written c.args.out.now) (g.L.Lines.state c.args.lines.now).sent) (output (g.S.Sink.written c.args.out.now) (g.L.Lines.state c.obey_host.new.lines).sent) (notes_said s.notes) (notes_said new.notes)
-    (λ own. host-is s.limit own live c.args.command.now (c.family_of.ensures.host c.in-Host.is)) (c.obey_host.ensures.told told whole first g.S.Sink.tells (g.S.Sink.written c.args.out.now))
+    (λ own. host-is s.limit own live c.args.command.now (c.family_of.ensures.host c.in-Host.is)) (c.obey_host.ensures.told told step whole first g.S.Sink.tells (g.S.Sink.written c.args.out.now))
 
 pub returns-in-Host-clause-line : goal.returns-in-Host-clause-line
 returns-in-Host-clause-line g c = λ some. host-line g.L.Lines.tells c.args.command.now c.obey_host.result (g.L.Lines.state c.args.lines.now) c.args.session.now.machine.lines (g.L.Lines.state c.obey_host.new.lines) c.obey_host.new.session.machine.lines (c.family_of.ensures.host c.in-Host.is) c.obey_host.ensures.line
@@ -105,7 +107,18 @@ pub returns-in-Host-clause-stop : goal.returns-in-Host-clause-stop
 returns-in-Host-clause-stop g c = host-no-fault c.obey_host.result c.obey_host.ensures.answer
 
 pub returns-in-Untold-clause-told : goal.returns-in-Untold-clause-told
-returns-in-Untold-clause-told g c = λ told whole first.
+returns-in-Untold-clause-told g c = λ told step whole first.
+    let s = c.args.session.now in
+    let new = c.obey_untold.new.session in
+    let ports = g.L.Lines.state c.args.lines.now in
+    let files = beyond (g.F.Files.state c.args.files.now).files ports whole in
+    let live = live_in s files in
+    did-as (λ own. effect s.limit own live c.args.command.now) (λ own. untold_effect live c.args.command.now) s.command c.obey_untold.result (live_in new files) g.S.Sink.tells
+    (output (g.S.Sink.written c.args.out.now) ports.sent) (output (g.S.Sink.written c.obey_untold.new.out) ports.sent) (notes_said s.notes) (notes_said new.notes)
+    (λ own. untold-is s.limit own live c.args.command.now (c.family_of.ensures.untold c.in-Untold.is)) (c.obey_untold.ensures.told files ports.sent)
+
+pub returns-in-Untold-clause-untold : goal.returns-in-Untold-clause-untold
+returns-in-Untold-clause-untold g c = λ untold whole.
     let s = c.args.session.now in
     let new = c.obey_untold.new.session in
     let ports = g.L.Lines.state c.args.lines.now in
@@ -187,3 +200,33 @@ returns-in-Untold-clause-open g c =
 pub returns-in-Untold-clause-around : goal.returns-in-Untold-clause-around
 returns-in-Untold-clause-around g c = λ base around.
     subst (λ l. Around l base (g.F.Files.state c.args.files.now).opened) (sym c.obey_untold.ensures.slots) around
+
+-- ---- the disk's file stays in step with the copy of it, and the console grows
+
+pub returns-in-Run-clause-step : goal.returns-in-Run-clause-step
+returns-in-Run-clause-step g c = λ told. c.obey_run.ensures.step
+
+pub returns-in-Untold-clause-step : goal.returns-in-Untold-clause-step
+returns-in-Untold-clause-step g c = λ told.
+    let files = (g.F.Files.state c.args.files.now).files in
+    stays-alone c.args.session.now c.obey_untold.new.session files files
+    (step-unchanged c.args.session.now c.obey_untold.new.session files files c.obey_untold.ensures.attached refl)
+
+pub returns-in-Host-clause-grows : goal.returns-in-Host-clause-grows
+returns-in-Host-clause-grows g c = grows-same g.S.Sink.tells (g.S.Sink.written c.args.out.now) (g.S.Sink.written c.args.out.now) refl
+
+pub returns-in-Untold-clause-grows : goal.returns-in-Untold-clause-grows
+returns-in-Untold-clause-grows g c =
+    let s = c.args.session.now in
+    let new = c.obey_untold.new.session in
+    let ports = g.L.Lines.state c.args.lines.now in
+    let files = beyond (g.F.Files.state c.args.files.now).files ports [] in
+    grows-did (λ own. untold_effect (live_in s files) c.args.command.now) s.command c.obey_untold.result (live_in new files) g.S.Sink.tells
+    (output (g.S.Sink.written c.args.out.now) ports.sent) (output (g.S.Sink.written c.obey_untold.new.out) ports.sent) (notes_said s.notes) (notes_said new.notes)
+    (λ is. (c.obey_untold.ensures.undone is g.F.Files.tells (g.F.Files.state c.args.files.now)).written) (c.obey_untold.ensures.told files ports.sent)
+
+pub returns-in-Run-clause-untold : goal.returns-in-Run-clause-untold
+returns-in-Run-clause-untold g c = λ untold. absurd (run-no-untold c.args.command.now (c.family_of.ensures.run c.in-Run.is) untold)
+
+pub returns-in-Host-clause-untold : goal.returns-in-Host-clause-untold
+returns-in-Host-clause-untold g c = λ untold. absurd (host-no-untold c.args.command.now (c.family_of.ensures.host c.in-Host.is) untold)

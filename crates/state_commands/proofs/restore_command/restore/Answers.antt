@@ -251,7 +251,7 @@ returns-in-Ok-set_state-clause-back g c =
       machine = subst (λ (lines : List (LineOf ℕ)). c.set_state.new.machine ≡ record (with_machine_of s.machine (state_in c.in-Ok-saved_in.saved).machine) {
         slots = c.set_state.new.machine.slots;
         disk = c.set_state.new.machine.disk;
-        marks = c.set_state.new.machine.marks;
+        aside = c.set_state.new.machine.aside;
         lines = lines;
       }) set.ports set.rest;
       attached = set.attached;

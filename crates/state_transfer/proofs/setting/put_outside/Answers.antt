@@ -43,7 +43,7 @@ returns-in-Err-clause-refused g c =
     given-back c.attach_all.new.attached c.attached_mut-in-Err.result.now c.give_back_all.new.attached
     (files_in c.deref.result.now) same apart c.in_ok-attach_all.ensures.attached c.in_ok-attach_all.ensures.other
     (rw (← files) c.give_back_all.ensures.attached) (rw (← files) c.give_back_all.ensures.disk)
-    (c.give_back_all.ensures.unmarked (ap (λ (a : AttachedFiles). a.marks) same ∙ c.in_ok-attach_all.ensures.unmarked)) in
+    (c.give_back_all.ensures.unmarked (ap (λ (a : AttachedFiles). a.aside) same ∙ c.in_ok-attach_all.ensures.unmarked)) in
     ap (λ (m : MachineState). with_attached_files m c.give_back_all.new.attached) c.in-Err.ensures.refused
     ∙ ap (λ (a : AttachedFiles). with_attached_files c.args.machine.now a) (back ∙ sym c.requires.nothing)
 
@@ -59,7 +59,7 @@ returns-in-Err-clause-closed g c =
     given-back c.attach_all.new.attached c.attached_mut-in-Err.result.now c.give_back_all.new.attached
     (files_in c.deref.result.now) same apart c.in_ok-attach_all.ensures.attached c.in_ok-attach_all.ensures.other
     (rw (← files) c.give_back_all.ensures.attached) (rw (← files) c.give_back_all.ensures.disk)
-    (c.give_back_all.ensures.unmarked (ap (λ (a : AttachedFiles). a.marks) same ∙ c.in_ok-attach_all.ensures.unmarked)) in
+    (c.give_back_all.ensures.unmarked (ap (λ (a : AttachedFiles). a.aside) same ∙ c.in_ok-attach_all.ensures.unmarked)) in
     let before = (g.F.Files.state c.args.files.now).opened in
     only-base c.give_back_all.new.attached.slots before (g.F.Files.state c.give_back_all.new.files).opened
     (ap (λ (a : AttachedFiles). a.slots) back)

@@ -2,6 +2,7 @@ use Rattle.std.proofs.Common.{◌*◌, List, length, drop, refl, ap, sym, ◌∙
 use Rattle.std.proofs.lemmas.List.{length-take}
 use Rattle.file_traits.specs.Lists.{changed}
 use Rattle.file_traits.specs.State.{Opened, name_at}
+use Rattle.unit_files.specs.Aside.{aside_length}
 use Rattle.unit_files.specs.Pages.{page_bytes, disk_pages}
 use Rattle.unit_files.specs.InStep.{written_pages}
 use Rattle.unit_files.specs.Acts.{piece_of}
@@ -18,11 +19,11 @@ loop-page-init g c =
     }
 
 pub overflow_mul-place : goal.overflow_mul-place
-unfolding disk_pages
+unfolding aside_length
 overflow_mul-place g c = let all = c.requires.pages in let low = c.loop-page-test.true in omega (arith, all, low)
 
 pub write_page-requires-clause-within : goal.write_page-requires-clause-within
-unfolding disk_pages page_bytes
+unfolding aside_length page_bytes
 write_page-requires-clause-within g c =
     let all = c.requires.pages in
     let low = c.loop-page-test.true in

@@ -69,7 +69,7 @@ returns-in-Ok-take_file-clause-step g c = λ tells is.
     step-attached c.args.unit a c.args.self.now c.put.new.self new.files c.requires.unit is (omega (arith, within)) attached
     (ap (λ (d : Buffer). d.bytes) (c.put.ensures.disk ∙ ap (λ (b : Bool). if b then copy else c.args.self.now.disk) is)
     ∙ c.in-Ok-take_file.ensures.bytes tells is)
-    (c.put.ensures.marks ∙ ap (λ (b : Bool). if b then no_marks else c.args.self.now.marks) is) there
+    (c.put.ensures.marks ∙ ap (λ (b : Bool). if b then no_marks else c.args.self.now.aside) is) there
 
 pub returns-in-Ok-take_file-clause-from : goal.returns-in-Ok-take_file-clause-from
 returns-in-Ok-take_file-clause-from g c =

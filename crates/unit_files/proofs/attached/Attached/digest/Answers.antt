@@ -31,7 +31,7 @@ returns-in-Err-clause-pages g c =
     let old = g.F.Files.state c.args.files.now in
     let at = attachment_at (attachments_of c.args.self.now.slots) c.args.unit in
     c.in-Err.ensures.pages
-    ∙ ap (λ (o : Option Failure). pages_flushed o c.args.unit at c.args.self.now.disk c.args.self.now.marks old.files) (sym (failure-refused c.in-Err.fault))
+    ∙ ap (λ (o : Option Failure). pages_flushed o c.args.unit at c.args.self.now.disk c.args.self.now.aside old.files) (sym (failure-refused c.in-Err.fault))
 
 pub returns-in-Err-clause-files : goal.returns-in-Err-clause-files
 returns-in-Err-clause-files g c = λ step.

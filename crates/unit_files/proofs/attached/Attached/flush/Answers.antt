@@ -54,9 +54,9 @@ returns-in-Ok-clause-pages g c =
     let there = ap (λ (a : AttachedFiles). held_at a.slots c.args.unit) c.self.view_is ∙ holds.there in
     let copy = copy-there _ c.args.unit holds.held c.self.inside.disk c.self.invariant.2 c.requires.unit is there in
     c.in-Ok.ensures.files
-    ∙ same-copy c.self.inside.disk c.args.self.now.disk c.args.self.now.marks None old.files (name_at old.opened c.in-Some.field-0.0)
-    copy.pages (ap (λ (a : AttachedFiles). a.disk.bytes) c.self.view_is) (ap (λ (a : AttachedFiles). a.marks) c.self.view_is)
-    ∙ sym (written-back-file None c.args.unit _ holds.held.attachment c.args.self.now.disk c.args.self.now.marks old.files _ holds.attachment
+    ∙ same-copy c.self.inside.disk c.args.self.now.disk c.args.self.now.aside None old.files (name_at old.opened c.in-Some.field-0.0)
+    copy.pages (ap (λ (a : AttachedFiles). a.disk.bytes) c.self.view_is) (ap (λ (a : AttachedFiles). a.aside) c.self.view_is)
+    ∙ sym (written-back-file None c.args.unit _ holds.held.attachment c.args.self.now.disk c.args.self.now.aside old.files _ holds.attachment
     of.name due)
 
 pub returns-in-Err-clause-pages : goal.returns-in-Err-clause-pages
@@ -70,9 +70,9 @@ returns-in-Err-clause-pages g c =
     let there = ap (λ (a : AttachedFiles). held_at a.slots c.args.unit) c.self.view_is ∙ holds.there in
     let copy = copy-there _ c.args.unit holds.held c.self.inside.disk c.self.invariant.2 c.requires.unit is there in
     c.in-Err.ensures.files
-    ∙ same-copy c.self.inside.disk c.args.self.now.disk c.args.self.now.marks fault old.files (name_at old.opened c.in-Some.field-0.0)
-    copy.pages (ap (λ (a : AttachedFiles). a.disk.bytes) c.self.view_is) (ap (λ (a : AttachedFiles). a.marks) c.self.view_is)
-    ∙ sym (written-back-file fault c.args.unit _ holds.held.attachment c.args.self.now.disk c.args.self.now.marks old.files _ holds.attachment
+    ∙ same-copy c.self.inside.disk c.args.self.now.disk c.args.self.now.aside fault old.files (name_at old.opened c.in-Some.field-0.0)
+    copy.pages (ap (λ (a : AttachedFiles). a.disk.bytes) c.self.view_is) (ap (λ (a : AttachedFiles). a.aside) c.self.view_is)
+    ∙ sym (written-back-file fault c.args.unit _ holds.held.attachment c.args.self.now.disk c.args.self.now.aside old.files _ holds.attachment
     of.name due)
 
 pub returns-in-Err-clause-cause : goal.returns-in-Err-clause-cause
@@ -90,7 +90,7 @@ pub returns-in-Ok-clause-files : goal.returns-in-Ok-clause-files
 returns-in-Ok-clause-files g c = λ step.
     let old = g.F.Files.state c.args.files.now in
     returns-in-Ok-clause-pages g c
-    ∙ content None c.args.unit _ c.args.self.now.disk c.args.self.now.marks old.files tt
+    ∙ content None c.args.unit _ c.args.self.now.disk c.args.self.now.aside old.files tt
     (step-content None c.args.unit c.args.self.now old.files c.requires.unit step)
 
 pub returns-in-Err-clause-files : goal.returns-in-Err-clause-files
@@ -99,7 +99,7 @@ returns-in-Err-clause-files g c = λ step.
     let fault = Some (failure_in c.in-Err.fault) in
     let part : c.in-Err.fault.done ≤ length c.args.self.now.disk.bytes = search rules in
     returns-in-Err-clause-pages g c
-    ∙ content fault c.args.unit _ c.args.self.now.disk c.args.self.now.marks old.files part
+    ∙ content fault c.args.unit _ c.args.self.now.disk c.args.self.now.aside old.files part
     (step-content fault c.args.unit c.args.self.now old.files c.requires.unit step)
 
 pub returns-in-None-clause-files : goal.returns-in-None-clause-files
@@ -129,8 +129,8 @@ returns-in-Ok-clause-step g c = λ step.
     let copy : new.disk ≡ buffer_flushed Flushed c.args.unit disk =
     (λ i. record { bytes = bytes i; written = c.unmark.ensures.copy.unwritten i })
     ∙ sym (ap (λ (b : Bool). if b then record disk { written = false } else disk) is) in
-    let marks : new.marks ≡ marks_flushed Flushed c.args.unit c.args.self.now.marks =
-    c.unmark.ensures.copy.unmarked ∙ sym (ap (λ (b : Bool). if b then no_marks else c.args.self.now.marks) is) in
+    let marks : new.aside ≡ marks_flushed Flushed c.args.unit c.args.self.now.aside =
+    c.unmark.ensures.copy.unmarked ∙ sym (ap (λ (b : Bool). if b then no_marks else c.args.self.now.aside) is) in
     step-flushed None c.args.unit Flushed c.args.self.now new old.files now.files c.requires.unit
     (ap (λ (a : AttachedFiles). a.slots) c.self.view_is) says copy marks (returns-in-Ok-clause-files g c step) tt step
 

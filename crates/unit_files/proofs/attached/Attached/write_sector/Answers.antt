@@ -22,7 +22,7 @@ returns-clause-covers c =
     let slots = map slot_of c.self.inside.slots.items in
     let new = files_of slots c.write.new.self in
     let bytes = ap (λ (a : AttachedFiles). a.disk.bytes) c.self.view_is in
-    let marks = ap (λ (a : AttachedFiles). a.marks) c.self.view_is in
+    let marks = ap (λ (a : AttachedFiles). a.aside) c.self.view_is in
     let all = ap (λ (l : List Bool). length l) (sym marks) ∙ pages-long slots c.self.inside.disk c.self.invariant.2 in
     let written = c.write.ensures.bytes ∙ ap (λ (b : List ℕ). with_sector b c.args.sector c.args.from.now) bytes in
     covers-sector old new c.args.from.now c.args.sector c.requires c.told-from all
