@@ -1,4 +1,3 @@
 // The assembler.
-mod checked;
 mod sizes;
 mod sources;

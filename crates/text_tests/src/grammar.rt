@@ -1,6 +1,5 @@
 // The grammar of command lines.
 mod attachments;
-mod checked;
 mod faults;
 mod lines;
 mod lists;

@@ -1,5 +1,6 @@
 // The keys of bytes, wherever these are cut. A line has the bytes, and the keys that they give.
-use crate::terminal::texts::{bytes_of, cut, holds};
+use crate::checked::holds;
+use crate::terminal::texts::{bytes_of, cut};
 use host_lines::ConnId;
 use std::alloc::Global;
 use std::test::Fail;

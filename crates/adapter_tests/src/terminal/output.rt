@@ -1,7 +1,8 @@
 // What is put on a line: when it is full, and what is sent of it. A row has the room of the lines, the most bytes of one
 // send, how many bytes are put behind the opening, how often the line is polled, and how many bytes were sent then and how
 // many wait.
-use crate::terminal::texts::{count, cut, holds};
+use crate::checked::holds;
+use crate::terminal::texts::{count, cut};
 use host_lines::{ConnId, Lines, MemLines, Sent};
 use std::alloc::Global;
 use std::process::Abort;

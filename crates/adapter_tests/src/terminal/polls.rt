@@ -2,7 +2,8 @@
 // and hangs up at 300. Calls count from that of `listen`, which is made again where it fails. A row has the call that
 // fails; each poll with its time, the key that it answers and the connection that stands then; how many bytes were sent;
 // how many faults were counted.
-use crate::terminal::texts::{byte_of, cut, holds, number};
+use crate::checked::holds;
+use crate::terminal::texts::{byte_of, cut, number};
 use host_lines::{ConnId, Lines, ListenFault, MemLines};
 use std::alloc::Global;
 use std::process::Abort;

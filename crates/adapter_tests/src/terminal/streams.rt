@@ -1,6 +1,7 @@
 // A stream of 40 bytes with negotiations, from a caller that sends it in three pieces, cut at each two places.
+use crate::checked::holds;
 use crate::terminal::cutting::behind;
-use crate::terminal::texts::{bytes_of, holds};
+use crate::terminal::texts::bytes_of;
 use host_lines::MemLines;
 use std::alloc::Global;
 use std::process::Abort;

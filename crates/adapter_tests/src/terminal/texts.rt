@@ -1,13 +1,7 @@
-// Lines of text, bytes as hexadecimal digits, and what is asserted of them.
+// Lines of text, and bytes as hexadecimal digits.
 ghost use Rattle.std.specs.Prelude.{◌≤◌, IfSome};
 
 use std::alloc::Global;
-use std::process::Abort;
-
-/// It is so at that line.
-pub fn holds(rt: &impl Abort, so: bool, line: &str) {
-    assert!(rt; so, "{line}");
-}
 
 /// What stands before and behind a sign; nothing behind it where it is not there.
 pub fn cut(text: &str, sign: char) -> (&str, &str) {

@@ -9,6 +9,7 @@ ghost use Rattle.unit_files.specs.Open.{AllOpen};
 ghost use Rattle.command_words.specs.Standard.{IsStandard};
 ghost use Rattle.state_transfer.specs.SavedValid.{AreStandard};
 
+use crate::checked::check;
 use crate::scripts::row::{Row, bytes, decimal, number, text};
 use crate::sessions::opened;
 use crate::units::standard_units;
@@ -86,12 +87,8 @@ fn put(rt: &impl Abort, alloc: Global, files: &mut MemFiles, file: &str) -> Resu
     let (name, text) = file.split_once(':').unwrap_or((file, ""));
     let bytes = bytes(alloc, text)?;
     let added = files.add_file(name, bytes.as_slice());
-    holds(rt, added.is_ok(), file);
+    check(rt, added.is_ok(), file);
     Ok(())
-}
-
-fn holds(rt: &impl Abort, found: bool, line: &str) {
-    assert!(rt; found, "{line}");
 }
 
 fn bytes_agree(rt: &impl Abort, found: &[u8], wanted: &[u8], line: &str) {
@@ -214,8 +211,8 @@ fn words_of(alloc: Global, row: Row<'_>) -> Result<Vec<String>, AllocError> {
 
 fn finishes(rt: &impl Abort, finish: Finish, input: &ByteSource, row: Row<'_>) {
     let wanted = finish_named(text(row, "finish").unwrap_or(""));
-    holds(rt, wanted == Some(finish), row.line);
-    holds(rt, input.faults() == number(row, "faults", 0), row.line);
+    check(rt, wanted == Some(finish), row.line);
+    check(rt, input.faults() == number(row, "faults", 0), row.line);
 }
 
 fn finish_named(word: &str) -> Option<Finish> {

@@ -11,11 +11,6 @@ input=X~ | room=9 | finish=Console | prints=sim> Unkn
 ; nothing but a line is read before the read that fails
 input=~~ | prompt=no | room=0 | read=1 | finish=Input | faults=1";
 
-#[test]
-fn sessions_finish_by_their_input_console_and_budget(rt: HostRuntime) -> Result<(), Fail> {
-    all(&rt, rt.alloc(), "budget=9 | room=100", FINISHES)
-}
-
 /// A session with a script.
 const PLAIN: &str = "script= | words=main | finish=EndOfInput";
 
@@ -27,21 +22,11 @@ script=ECHO a~EXIT 7~ECHO b~ | input=ECHO c~ | prints=a~ | finish=Exit 7
 script=ECHO a~NONSENSE~ECHO b~ | strict=yes | prints=a~Unknown command~sim>  | finish=EndOfInput
 script=ECHO %0 %1~; %2~ | echo=yes | words=main x yy | prints=do> ECHO main x~main x~do> ; yy~sim>  | finish=EndOfInput";
 
-#[test]
-fn the_lines_of_a_script_come_before_those_of_the_input(rt: HostRuntime) -> Result<(), Fail> {
-    all(&rt, rt.alloc(), PLAIN, LINES)
-}
-
 const LABELS: &str =
     "script=GOTO end~ECHO a~:end~ECHO b~:end~ECHO c~ | prints=b~c~sim>  | finish=EndOfInput
 script=:again~ECHO a~GOTO again~ | budget=5 | prints=a~a~ | finish=Commands
 script=GOTO nowhere~ECHO a~ | input=GOTO end~ | prints=Label not found~a~sim> Not in a DO file~sim>  | finish=EndOfInput
 script=; one~~ | input=ECHO a~ | budget=2 | prints=sim>  | finish=Commands";
-
-#[test]
-fn a_goto_goes_to_the_first_such_label_of_its_script(rt: HostRuntime) -> Result<(), Fail> {
-    all(&rt, rt.alloc(), PLAIN, LABELS)
-}
 
 /// A session with a script and others that it may begin.
 const WITH_OTHERS: &str =
@@ -53,11 +38,6 @@ script= | input=DO self~ECHO a~ | prints=sim> DO nested too deeply~sim> a~sim>  
 script=DO -E fails~ECHO a~ | prints=Unknown command~a~sim>  | finish=EndOfInput
 script=DO -E fails~ECHO a~ | strict=yes | prints=Unknown command~sim>  | finish=EndOfInput
 script=DO asserts~ECHO a~DO missing~ECHO b~ | prints=Assertion failed~a~File not found~b~sim>  | finish=EndOfInput";
-
-#[test]
-fn a_script_may_begin_others(rt: HostRuntime) -> Result<(), Fail> {
-    all(&rt, rt.alloc(), WITH_OTHERS, OTHERS)
-}
 
 /// Memory is 0, so that GO runs one instruction, JMP 0, and then stops at a break at 0.
 const WITH_INNER: &str = "script= | words=main | finish=EndOfInput | files=inner:ECHO inner~";
@@ -80,6 +60,11 @@ script=BREAK 0; ECHO a~GO~ | echo=yes | prints=do> BREAK 0; ECHO a~do> GO~~Break
 script=BREAK 0; ECHO a~GO | reads=no | input=ECHO typed~ | budget=3 | prints=~Breakpoint, PC: 00000 (000000)~a~ | finish=Exit 0";
 
 #[test]
-fn the_actions_of_a_stop_come_before_the_next_line(rt: HostRuntime) -> Result<(), Fail> {
-    all(&rt, rt.alloc(), WITH_INNER, ACTIONS)
+fn sessions_go_as_their_texts_say(rt: HostRuntime) -> Result<(), Fail> {
+    all(&rt, rt.alloc(), "budget=9 | room=100", FINISHES)?;
+    all(&rt, rt.alloc(), PLAIN, LINES)?;
+    all(&rt, rt.alloc(), PLAIN, LABELS)?;
+    all(&rt, rt.alloc(), WITH_OTHERS, OTHERS)?;
+    all(&rt, rt.alloc(), WITH_INNER, ACTIONS)?;
+    Ok(())
 }

@@ -2,8 +2,9 @@
 ghost use Rattle.saved_session.specs.Parts.{state_in};
 ghost use Rattle.saved_session.specs.Valid.{Valid};
 
+use crate::checked::check;
 use crate::states::same::same_files;
-use crate::states::texts::{FIRST, bytes_of, equal, holds, number};
+use crate::states::texts::{FIRST, bytes_of, equal, number};
 use host_files::{FileCall, FileId, Files, MemFiles};
 use state_file::{RestoreFault, SaveFault, Saved, attach_all, digest_all, read_state};
 use std::alloc::{AllocError, Global};
@@ -182,8 +183,8 @@ pub fn stand(rt: &impl Abort, attached: &Attached, so: bool, line: &str) {
     equal(rt, &attached.name_of(DISK), &disk, line);
     equal(rt, &attached.name_of(DRIVE), &drive, line);
     equal(rt, &attached.name_of(READER), &reader, line);
-    holds(rt, attached.is_read_only(READER) == so, line);
-    holds(rt, !attached.is_read_only(DISK), line);
+    check(rt, attached.is_read_only(READER) == so, line);
+    check(rt, !attached.is_read_only(DISK), line);
 }
 
 fn restores<F: Files>(
@@ -212,7 +213,7 @@ fn plays_restores(rt: &impl Abort, alloc: Global, saved: &Saved)
             Some(mut files) => {
                 let _ = restores(rt, alloc, saved, &mut files, row);
             }
-            None => holds(rt, false, line),
+            None => check(rt, false, line),
         }
     }
 }
@@ -222,7 +223,7 @@ fn files_are_attached_and_compared(rt: HostRuntime) -> Result<(), Fail> {
     let text = state_text(rt.alloc())?;
     match read_state(rt.alloc(), text.as_slice()) {
         Ok(saved) => plays_restores(&rt, rt.alloc(), &saved),
-        Err(_) => holds(&rt, false, "the state is read"),
+        Err(_) => check(&rt, false, "the state is read"),
     }
     Ok(())
 }
@@ -257,7 +258,7 @@ fn saves<F: Files>(
     let answer = attach_all(alloc, list, true, &mut attached, files);
     equal(rt, &answer, &Ok(()), row.line);
     match digest_all(alloc, &mut attached, files) {
-        Ok(found) => holds(rt, same_files(found.as_slice(), list), row.line),
+        Ok(found) => check(rt, same_files(found.as_slice(), list), row.line),
         Err(fault) => equal(rt, &Some(fault), &save_fault_of(row.answer), row.line),
     }
     stand(rt, &attached, true, row.line);
@@ -273,7 +274,7 @@ fn plays_saves(rt: &impl Abort, alloc: Global, saved: &Saved)
             Some(mut files) => {
                 let _ = saves(rt, alloc, saved, &mut files, row);
             }
-            None => holds(rt, false, line),
+            None => check(rt, false, line),
         }
     }
 }
@@ -283,7 +284,7 @@ fn attached_files_are_saved(rt: HostRuntime) -> Result<(), Fail> {
     let text = state_text(rt.alloc())?;
     match read_state(rt.alloc(), text.as_slice()) {
         Ok(saved) => plays_saves(&rt, rt.alloc(), &saved),
-        Err(_) => holds(&rt, false, "the state is read"),
+        Err(_) => check(&rt, false, "the state is read"),
     }
     Ok(())
 }

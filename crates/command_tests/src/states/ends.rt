@@ -1,7 +1,8 @@
 // State files that are cut, that go on behind their end, or of which one byte is another one.
+use crate::checked::check;
 use crate::states::faults::{fault_in, is_refused};
 use crate::states::texts::{
-    BUSY, BUSY_DIGEST, FIRST, FIRST_DIGEST, both_of, bytes_of, equal, holds, number,
+    BUSY, BUSY_DIGEST, FIRST, FIRST_DIGEST, both_of, bytes_of, equal, number,
 };
 use state_file::StateFault;
 use std::alloc::{AllocError, Global};
@@ -122,7 +123,7 @@ fn is_refused_with(rt: &impl Abort, alloc: Global, place: usize) -> Result<(), A
     let mut bytes = both_of(alloc, BUSY, BUSY_DIGEST)?;
     let byte = *bytes.get(place).unwrap_or(&0);
     set(&mut bytes, place, byte.wrapping_add(1));
-    holds(
+    check(
         rt,
         fault_in(alloc, &bytes).is_some(),
         "a byte that is one more",

@@ -1,6 +1,7 @@
 // Fields that hold what they cannot hold, each alone, and the one fault of each.
+use crate::checked::check;
 use crate::states::pieces::fault_in_pieces;
-use crate::states::texts::{BUSY, BUSY_DIGEST, both_of, equal, holds, number};
+use crate::states::texts::{BUSY, BUSY_DIGEST, both_of, equal, number};
 use state_file::{StateFault, read_state};
 use std::alloc::{AllocError, Global};
 use std::process::Abort;
@@ -133,6 +134,6 @@ fn each_field_has_its_fault_at_its_place(rt: HostRuntime) -> Result<(), Fail> {
 #[test]
 fn the_bytes_without_a_change_have_none(rt: HostRuntime) -> Result<(), Fail> {
     let bytes = both_of(rt.alloc(), BUSY, BUSY_DIGEST)?;
-    holds(&rt, fault_in(rt.alloc(), &bytes).is_none(), "no change");
+    check(&rt, fault_in(rt.alloc(), &bytes).is_none(), "no change");
     Ok(())
 }

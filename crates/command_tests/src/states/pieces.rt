@@ -1,8 +1,9 @@
 // State files that come in pieces.
 ghost use Rattle.std.specs.Prelude.{◌<◌};
 
+use crate::checked::check;
 use crate::states::same::same;
-use crate::states::texts::{BUSY, BUSY_DIGEST, FIRST, FIRST_DIGEST, both_of, equal, holds};
+use crate::states::texts::{BUSY, BUSY_DIGEST, FIRST, FIRST_DIGEST, both_of, equal};
 use state_file::{OutOfMemory, Saved, StateFault, StateReader, read_state};
 use std::alloc::Global;
 use std::process::Abort;
@@ -49,8 +50,8 @@ pub fn fault_in_pieces(alloc: Global, bytes: &[u8], size: usize) -> Option<State
 
 fn is_same(rt: &impl Abort, found: &Result<Saved, StateFault>, wanted: &Saved, line: &str) {
     match found {
-        Ok(saved) => holds(rt, same(saved, wanted), line),
-        Err(_) => holds(rt, false, line),
+        Ok(saved) => check(rt, same(saved, wanted), line),
+        Err(_) => check(rt, false, line),
     }
 }
 
@@ -62,7 +63,7 @@ fn says_the_same(rt: &impl Abort, alloc: Global, bytes: &[u8], line: &str) {
             is_same(rt, &read_pieces(alloc, bytes, 4095), &wanted, line);
             is_same(rt, &read_pieces(alloc, bytes, 4096), &wanted, line);
         }
-        Err(_) => holds(rt, false, line),
+        Err(_) => check(rt, false, line),
     }
 }
 
@@ -95,7 +96,7 @@ fn a_piece_may_end_anywhere(rt: HostRuntime) -> Result<(), Fail> {
     let bytes = both_of(rt.alloc(), BUSY, BUSY_DIGEST)?;
     match read_state(rt.alloc(), &bytes) {
         Ok(wanted) => is_same_at_each_cut(&rt, rt.alloc(), &bytes, &wanted),
-        Err(_) => holds(&rt, false, "it is read"),
+        Err(_) => check(&rt, false, "it is read"),
     }
     Ok(())
 }

@@ -8,9 +8,12 @@ ghost use Rattle.saved_session.specs.Parts.{state_in};
 ghost use Rattle.state_transfer.specs.SavedValid.{AreStandard};
 ghost use Rattle.saved_session.specs.Valid.{Valid};
 
-use crate::states::attaching::{FILES, Row, add_bytes, answer_of, files_of, row_of, stand, state_text};
+use crate::checked::check;
+use crate::states::attaching::{
+    FILES, Row, add_bytes, answer_of, files_of, row_of, stand, state_text,
+};
 use crate::states::same::same;
-use crate::states::texts::{BUSY, bytes_of, equal, holds};
+use crate::states::texts::{BUSY, bytes_of, equal};
 use crate::units::standard_units;
 use expect_actions::Watch;
 use host_files::Files;
@@ -122,8 +125,8 @@ fn is_taken_again<U: Unit, F: Files>(
     requires open { AllOpen machine.old.slots (F.state files.old).opened }
 {
     match take_state(alloc, machine, watch, files) {
-        Ok(found) => holds(rt, same(&found, saved), line),
-        Err(_) => holds(rt, false, line),
+        Ok(found) => check(rt, same(&found, saved), line),
+        Err(_) => check(rt, false, line),
     }
 }
 
@@ -134,7 +137,7 @@ fn plays_all(rt: &impl Abort, alloc: Global, text: &[u8]) -> Result<(), AllocErr
                 plays(rt, alloc, &saved, row_of(line))?;
             }
         }
-        Err(_) => holds(rt, false, "the state is read"),
+        Err(_) => check(rt, false, "the state is read"),
     }
     Ok(())
 }

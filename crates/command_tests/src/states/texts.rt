@@ -83,11 +83,6 @@ pub fn both_of(alloc: Global, text: &str, other: &str) -> Result<Vec<u8>, AllocE
     Ok(out)
 }
 
-/// It is so at that line.
-pub fn holds(rt: &impl Abort, so: bool, line: &str) {
-    assert!(rt; so, "{line}");
-}
-
 /// At that line this was found, and that was wanted.
 pub fn equal<T: PartialEq + Debug>(rt: &impl Abort, found: &T, wanted: &T, line: &str) {
     assert_eq!(rt; found, wanted, "{line}");

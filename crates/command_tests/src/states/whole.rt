@@ -1,5 +1,6 @@
 // States that are read, and written again.
-use crate::states::texts::{BUSY, BUSY_DIGEST, FIRST, FIRST_DIGEST, both_of, equal, holds};
+use crate::checked::check;
+use crate::states::texts::{BUSY, BUSY_DIGEST, FIRST, FIRST_DIGEST, both_of, equal};
 use state_file::{Saved, SavedCpu, SavedEvent, SavedSend, StateFault, read_state, write_state};
 use std::alloc::Global;
 use std::process::Abort;
@@ -38,7 +39,7 @@ fn a_busy_state_is_written_as_it_was_read(rt: HostRuntime) -> Result<(), Fail> {
 /// The processor of the busy state.
 fn has_its_cpu(rt: &impl Abort, cpu: &SavedCpu) {
     equal(rt, &cpu.size_k, &4, "size");
-    holds(rt, cpu.acs == [1, 2, 3, 65535], "accumulators");
+    check(rt, cpu.acs == [1, 2, 3, 65535], "accumulators");
     equal(rt, &cpu.pc, &0o100, "PC");
     equal(rt, &cpu.time, &604, "time");
 }
@@ -77,7 +78,7 @@ fn has_its_lists(rt: &impl Abort, saved: &Saved) {
 
 /// What was printed last, and what is to be sent.
 fn has_its_bytes(rt: &impl Abort, saved: &Saved) {
-    holds(rt, saved.tail.as_slice() == b"\r\n>".as_slice(), "the tail");
+    check(rt, saved.tail.as_slice() == b"\r\n>".as_slice(), "the tail");
     let sent = SavedSend {
         time: 604,
         byte: b'Y',
@@ -89,15 +90,15 @@ fn has_its_bytes(rt: &impl Abort, saved: &Saved) {
 fn has_its_texts(rt: &impl Abort, saved: &Saved) {
     match saved.attachments.get(2) {
         Some(file) => equal(rt, &file.name.as_str(), &"é.tap", "the name"),
-        None => holds(rt, false, "the third file"),
+        None => check(rt, false, "the third file"),
     }
     match saved.breaks.get(1) {
-        Some(b) => holds(
+        Some(b) => check(
             rt,
             b.actions.as_slice() == b"E AC0".as_slice(),
             "the actions",
         ),
-        None => holds(rt, false, "the second break"),
+        None => check(rt, false, "the second break"),
     }
 }
 
@@ -113,7 +114,7 @@ fn a_busy_state_says_what_it_holds(rt: HostRuntime) -> Result<(), Fail> {
     let bytes = both_of(rt.alloc(), BUSY, BUSY_DIGEST)?;
     match read_state(rt.alloc(), &bytes) {
         Ok(saved) => has_all(&rt, &saved),
-        Err(_) => holds(&rt, false, "it is read"),
+        Err(_) => check(&rt, false, "it is read"),
     }
     Ok(())
 }

@@ -1,5 +1,5 @@
 // A damaged tape through all six calls, over a list of bytes, which tells what it holds.
-use crate::tapes::texts::{equal, holds};
+use crate::texts::{equal, holds};
 use host_files::ByteList;
 use simh_tape::{
     Item, Spaced, TapeFault, erase_rest, read_next, read_previous, space, write_block, write_mark,

@@ -2,7 +2,8 @@
 ghost use Rattle.std.specs.Prelude.{◌≤◌, ◌<◌, ◌^◌};
 
 use crate::tapes::test_tape::TestTape;
-use crate::tapes::texts::{columns_of, equal, holds, number, place_of};
+use crate::tapes::texts::{columns_of, place_of};
+use crate::texts::{equal, holds, number};
 use host_files::FileCall;
 use simh_tape::{Item, TapeFault, read_next, read_previous};
 use std::alloc::Global;

@@ -2,7 +2,8 @@
 ghost use Rattle.std.specs.Prelude.{◌≤◌};
 
 use crate::tapes::test_tape::TestTape;
-use crate::tapes::texts::{Call, call_of, equal, number, place_of};
+use crate::tapes::texts::{Call, call_of, place_of};
+use crate::texts::{equal, number};
 use host_files::FileCall;
 use simh_tape::{Spaced, TapeFault, space};
 use std::alloc::Global;

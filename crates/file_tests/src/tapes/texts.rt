@@ -1,8 +1,7 @@
-// Lines of text: columns with bars between them, calls with what they answer, and what is asserted of them.
+// Lines of text: columns with bars between them, and calls with what they answer.
 ghost use Rattle.std.specs.Prelude.{◌≤◌};
 
-use std::fmt::Debug;
-use std::process::Abort;
+use crate::texts::number;
 
 /// A call and its answer, as `write@16:de=26`.
 #[derive(Clone, Copy)]
@@ -52,19 +51,4 @@ pub fn columns_of(line: &str) -> Columns {
         second,
         third,
     }
-}
-
-/// A decimal number.
-pub fn number(digits: &str) -> Option<u64> {
-    digits.parse().ok()
-}
-
-/// It is so at that line.
-pub fn holds(rt: &impl Abort, so: bool, line: &str) {
-    assert!(rt; so, "{line}");
-}
-
-/// At that line this was found, and that was wanted.
-pub fn equal<T: PartialEq + Debug>(rt: &impl Abort, found: &T, wanted: &T, line: &str) {
-    assert_eq!(rt; found, wanted, "{line}");
 }

@@ -2,7 +2,8 @@
 ghost use Rattle.std.specs.Prelude.{◌≤◌};
 
 use crate::tapes::test_tape::TestTape;
-use crate::tapes::texts::{Call, call_of, columns_of, equal, holds, number};
+use crate::tapes::texts::{Call, call_of, columns_of};
+use crate::texts::{equal, holds, number};
 use host_files::FileCall;
 use simh_tape::{
     Item, PutFault, TapeFault, erase_rest, read_next, read_previous, write_block, write_mark,

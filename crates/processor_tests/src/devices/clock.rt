@@ -17,21 +17,11 @@ const THE_FUNCTION_COMES_BEFORE_THE_PULSE: &str = "1 1 1 | DOA 0o177776 = 0 keep
 0 1 2 | DOBC 3 = 0 cancel | 0 0 2
 0 1 2 | DOCS 3 = 0 after:10000 | 1 0 2";
 
-#[test]
-fn the_function_comes_before_the_pulse(rt: HostRuntime) {
-    all(&rt, &mut Clk::new(), THE_FUNCTION_COMES_BEFORE_THE_PULSE);
-}
-
 const A_TICK_IS_DONE_AND_A_RESET_CLEARS_ALL: &str =
     "1 0 3 | due 0 = nothing | 1 0 3 | got 0 done = keep go | 0 1 3 | reset = keep | 0 0 0
 0 1 1 | due 0 = nothing | 0 1 1 | got 0 done = keep go | 0 1 1 | reset = keep | 0 0 0
 1 0 3 | due 0 = nothing | 1 0 3 | got 0 no_key = keep go | 1 0 3 | reset = keep | 0 0 0
 1 1 0 | due 0 = nothing | 1 1 0 | got 0 line_full = keep go | 1 1 0 | reset = keep | 0 0 0";
-
-#[test]
-fn a_tick_is_done_and_a_reset_clears_all(rt: HostRuntime) {
-    all(&rt, &mut Clk::new(), A_TICK_IS_DONE_AND_A_RESET_CLEARS_ALL);
-}
 
 const A_REGISTER_TAKES_ITS_LIMITS_AND_NOTHING_PAST_THEM: &str = "0 0 0 | set 0 0 = taken 0
 0 0 0 | set 0 1 = taken 1
@@ -48,7 +38,9 @@ const A_REGISTER_TAKES_ITS_LIMITS_AND_NOTHING_PAST_THEM: &str = "0 0 0 | set 0 0
 0 0 0 | set 255 1 = refused 0";
 
 #[test]
-fn a_register_takes_its_limits_and_nothing_past_them(rt: HostRuntime) {
+fn a_clock_ticks(rt: HostRuntime) {
+    all(&rt, &mut Clk::new(), THE_FUNCTION_COMES_BEFORE_THE_PULSE);
+    all(&rt, &mut Clk::new(), A_TICK_IS_DONE_AND_A_RESET_CLEARS_ALL);
     all(
         &rt,
         &mut Clk::new(),

@@ -20,11 +20,6 @@ const THE_FUNCTION_COMES_BEFORE_THE_PULSE: &str =
 1 0 0 9 5 6 0 1 | NIOS 0 = 0 after:9 | 1 0 0 9 5 6 0 0
 1 0 1 9 5 6 0o17 1 | NIOC 0 = 0 cancel | 0 0 1 9 5 6 0 1";
 
-#[test]
-fn the_function_comes_before_the_pulse(rt: HostRuntime) {
-    all(&rt, &mut Dsk::new(), THE_FUNCTION_COMES_BEFORE_THE_PULSE);
-}
-
 const A_SECTOR_IS_MOVED_AS_THE_REGISTERS_THEN_SAY: &str =
     "1 0 0 9 7 0 0 1 | due 0 = sector_write 7 0 | 1 0 0 9 7 0 0 1 | got 0 done = keep go | 0 1 0 9 7 0o400 0 1
 | reset = keep | 0 0 0 9 7 0o400 0 0
@@ -45,15 +40,6 @@ const A_SECTOR_IS_MOVED_AS_THE_REGISTERS_THEN_SAY: &str =
 1 1 1 9 7 6 0 0 | due 0 = sector_read 7 6 | 1 1 1 9 7 6 0 0 | got 0 no_key = keep go | 1 1 1 9 7 6 0 0
 | reset = keep | 0 0 1 9 7 6 0 0";
 
-#[test]
-fn a_sector_is_moved_as_the_registers_then_say(rt: HostRuntime) {
-    all(
-        &rt,
-        &mut Dsk::new(),
-        A_SECTOR_IS_MOVED_AS_THE_REGISTERS_THEN_SAY,
-    );
-}
-
 const A_REGISTER_TAKES_ITS_LIMITS_AND_NOTHING_PAST_THEM: &str = "| 0 0 0 200 0 0 0 0
 | set 0 2 = refused 0 | set 0 0 = taken 0 | set 0 1 = taken 1
 | set 1 2 = refused 0 | set 1 0 = taken 0 | set 1 1 = taken 1
@@ -66,7 +52,13 @@ const A_REGISTER_TAKES_ITS_LIMITS_AND_NOTHING_PAST_THEM: &str = "| 0 0 0 200 0 0
 | set 3 0 = refused 65535 | set 8 0 = refused 0";
 
 #[test]
-fn a_register_takes_its_limits_and_nothing_past_them(rt: HostRuntime) {
+fn a_disk_moves_sectors(rt: HostRuntime) {
+    all(&rt, &mut Dsk::new(), THE_FUNCTION_COMES_BEFORE_THE_PULSE);
+    all(
+        &rt,
+        &mut Dsk::new(),
+        A_SECTOR_IS_MOVED_AS_THE_REGISTERS_THEN_SAY,
+    );
     all(
         &rt,
         &mut Dsk::new(),

@@ -2,13 +2,6 @@
 use crate::devices::rows::all;
 use paper_tape::{Lpt, Ptp, Ptr};
 
-#[test]
-fn each_unit_is_at_the_beginning_of_its_file_at_first(rt: HostRuntime) {
-    all(&rt, &mut Ptr::new(), "| 0 0 0 300 0 0");
-    all(&rt, &mut Ptp::new(), "| 0 0 0 200 0 0");
-    all(&rt, &mut Lpt::new(), "| 0 0 0 500 0 0");
-}
-
 const THE_READER_ANSWERS_ITS_BYTE_AND_THEN_TAKES_ITS_PULSE: &str =
     "0 1 0 7 0o301 5 | DIA 0o123456 = 0o301 keep | 0 1 0 7 0o301 5
 0 1 1 7 0o377 5 | DIAS 0o123456 = 0o377 after:7 | 1 0 1 7 0o377 5
@@ -20,15 +13,6 @@ const THE_READER_ANSWERS_ITS_BYTE_AND_THEN_TAKES_ITS_PULSE: &str =
 0 1 0 300 1 2 | DIB 0o123456 = 0 keep | 0 1 0 300 1 2
 0 0 0 1 1 2 | DICS 0o123456 = 0 after:1 | 1 0 0 1 1 2";
 
-#[test]
-fn the_reader_answers_its_byte_and_then_takes_its_pulse(rt: HostRuntime) {
-    all(
-        &rt,
-        &mut Ptr::new(),
-        THE_READER_ANSWERS_ITS_BYTE_AND_THEN_TAKES_ITS_PULSE,
-    );
-}
-
 const THE_READER_MOVES_ON_BY_A_BYTE_AND_WAITS_AT_ITS_END: &str =
     "1 0 0 9 0 4 | due 0 = read 4 | 1 0 0 9 0 4 | got 0 byte 0o301 = keep go | 0 1 0 9 0o301 5
 0 0 1 9 7 0 | due 0 = read 0 | 0 0 1 9 7 0 | got 0 byte 0 = keep go | 0 1 1 9 0 1
@@ -39,15 +23,6 @@ const THE_READER_MOVES_ON_BY_A_BYTE_AND_WAITS_AT_ITS_END: &str =
 1 0 1 9 7 5 | due 0 = read 5 | 1 0 1 9 7 5 | got 0 no_file = keep no_file | 1 0 1 9 7 5
 1 0 1 9 7 5 | due 0 = read 5 | 1 0 1 9 7 5 | got 0 done = keep go | 1 0 1 9 7 5
 1 0 1 9 7 5 | due 0 = read 5 | 1 0 1 9 7 5 | got 0 key 1 = keep go | 1 0 1 9 7 5";
-
-#[test]
-fn the_reader_moves_on_by_a_byte_and_waits_at_its_end(rt: HostRuntime) {
-    all(
-        &rt,
-        &mut Ptr::new(),
-        THE_READER_MOVES_ON_BY_A_BYTE_AND_WAITS_AT_ITS_END,
-    );
-}
 
 const THE_PUNCH_KEEPS_EIGHT_BITS: &str = "0 1 1 7 5 6 | DOAS 0o177701 = 0 after:7 | 1 0 1 7 0o301 6
 0 1 1 7 5 6 | DOAS 0o377 = 0 after:7 | 1 0 1 7 0o377 6
@@ -63,12 +38,6 @@ const THE_PRINTER_KEEPS_SEVEN: &str = "0 1 1 7 5 6 | DOAS 0o177701 = 0 after:7 |
 0 1 1 7 5 6 | DOAS 0o177 = 0 after:7 | 1 0 1 7 0o177 6
 0 1 1 7 5 6 | DOAS 0 = 0 after:7 | 1 0 1 7 0 6";
 
-#[test]
-fn the_punch_keeps_eight_bits_and_the_printer_seven(rt: HostRuntime) {
-    all(&rt, &mut Ptp::new(), THE_PUNCH_KEEPS_EIGHT_BITS);
-    all(&rt, &mut Lpt::new(), THE_PRINTER_KEEPS_SEVEN);
-}
-
 const A_WRITER_TAKES_ITS_PULSE_BEHIND_ITS_FUNCTION: &str =
     "1 0 0 7 5 6 | DOA 0o52 = 0 keep | 1 0 0 7 0o52 6
 1 1 0 7 5 6 | DOAC 0o52 = 0 cancel | 0 0 0 7 0o52 6
@@ -79,20 +48,6 @@ const A_WRITER_TAKES_ITS_PULSE_BEHIND_ITS_FUNCTION: &str =
 0 1 0 7 5 6 | DIA 0o52 = 0 keep | 0 1 0 7 5 6
 0 1 0 7 5 6 | DOB 0o52 = 0 keep | 0 1 0 7 5 6
 0 1 0 7 5 6 | DOCS 0o52 = 0 after:7 | 1 0 0 7 5 6";
-
-#[test]
-fn a_writer_takes_its_pulse_behind_its_function(rt: HostRuntime) {
-    all(
-        &rt,
-        &mut Ptp::new(),
-        A_WRITER_TAKES_ITS_PULSE_BEHIND_ITS_FUNCTION,
-    );
-    all(
-        &rt,
-        &mut Lpt::new(),
-        A_WRITER_TAKES_ITS_PULSE_BEHIND_ITS_FUNCTION,
-    );
-}
 
 const A_WRITER_IS_DONE_WHETHER_ITS_BYTE_WAS_WRITTEN_OR_NOT: &str =
     "1 0 0 9 0o101 4 | due 0 = write 4 0o101 | 1 0 0 9 0o101 4 | got 0 done = keep go | 0 1 0 9 0o101 5
@@ -107,30 +62,9 @@ const A_WRITER_IS_DONE_WHETHER_ITS_BYTE_WAS_WRITTEN_OR_NOT: &str =
 0 1 1 9 7 5 | due 0 = write 5 7 | 0 1 1 9 7 5 | got 0 no_key = keep go | 0 1 1 9 7 5
 1 0 1 9 7 5 | due 0 = write 5 7 | 1 0 1 9 7 5 | got 0 byte 1 = keep go | 1 0 1 9 7 5";
 
-#[test]
-fn a_writer_is_done_whether_its_byte_was_written_or_not(rt: HostRuntime) {
-    all(
-        &rt,
-        &mut Ptp::new(),
-        A_WRITER_IS_DONE_WHETHER_ITS_BYTE_WAS_WRITTEN_OR_NOT,
-    );
-    all(
-        &rt,
-        &mut Lpt::new(),
-        A_WRITER_IS_DONE_WHETHER_ITS_BYTE_WAS_WRITTEN_OR_NOT,
-    );
-}
-
 const A_RESET_CLEARS_THE_FLAGS_ALONE: &str = "1 1 0 300 0 0 | reset = keep | 0 0 0 300 0 0
 1 1 1 1 0o177 16777216 | reset = keep | 0 0 1 1 0o177 16777216
 1 1 1 65535 1 77 | reset = keep | 0 0 1 65535 1 77";
-
-#[test]
-fn a_reset_clears_the_flags_alone(rt: HostRuntime) {
-    all(&rt, &mut Ptr::new(), A_RESET_CLEARS_THE_FLAGS_ALONE);
-    all(&rt, &mut Ptp::new(), A_RESET_CLEARS_THE_FLAGS_ALONE);
-    all(&rt, &mut Lpt::new(), A_RESET_CLEARS_THE_FLAGS_ALONE);
-}
 
 const A_REGISTER_TAKES_ITS_LIMITS_AND_NOTHING_PAST_THEM: &str = "0 0 0 300 0 0 | set 0 1 = taken 1
 0 0 0 300 0 0 | set 0 2 = refused 0
@@ -151,8 +85,55 @@ const A_REGISTER_TAKES_ITS_LIMITS_AND_NOTHING_PAST_THEM: &str = "0 0 0 300 0 0 |
 0 0 0 300 0 0 | set 6 1 = refused 0
 0 0 0 300 0 0 | set 255 0 = refused 0";
 
+const THE_READER_TAKES_EIGHT_BITS: &str = "| set 3 0 = refused 300 | set 3 65536 = refused 300
+| set 4 0o200 = taken 0o200 | set 4 0o377 = taken 0o377";
+
+const THE_PUNCH_TAKES_EIGHT_BITS: &str = "| set 3 0 = refused 200 | set 3 65536 = refused 200
+| set 4 0o200 = taken 0o200 | set 4 0o377 = taken 0o377";
+
+const THE_PRINTER_TAKES_SEVEN: &str = "| set 3 0 = refused 500 | set 3 65536 = refused 500
+| set 4 0o200 = refused 0 | set 4 0o377 = refused 0";
+
 #[test]
-fn a_register_takes_its_limits_and_nothing_past_them(rt: HostRuntime) {
+fn paper_units_read_punch_and_print(rt: HostRuntime) {
+    all(&rt, &mut Ptr::new(), "| 0 0 0 300 0 0");
+    all(&rt, &mut Ptp::new(), "| 0 0 0 200 0 0");
+    all(&rt, &mut Lpt::new(), "| 0 0 0 500 0 0");
+    all(
+        &rt,
+        &mut Ptr::new(),
+        THE_READER_ANSWERS_ITS_BYTE_AND_THEN_TAKES_ITS_PULSE,
+    );
+    all(
+        &rt,
+        &mut Ptr::new(),
+        THE_READER_MOVES_ON_BY_A_BYTE_AND_WAITS_AT_ITS_END,
+    );
+    all(&rt, &mut Ptp::new(), THE_PUNCH_KEEPS_EIGHT_BITS);
+    all(&rt, &mut Lpt::new(), THE_PRINTER_KEEPS_SEVEN);
+    all(
+        &rt,
+        &mut Ptp::new(),
+        A_WRITER_TAKES_ITS_PULSE_BEHIND_ITS_FUNCTION,
+    );
+    all(
+        &rt,
+        &mut Lpt::new(),
+        A_WRITER_TAKES_ITS_PULSE_BEHIND_ITS_FUNCTION,
+    );
+    all(
+        &rt,
+        &mut Ptp::new(),
+        A_WRITER_IS_DONE_WHETHER_ITS_BYTE_WAS_WRITTEN_OR_NOT,
+    );
+    all(
+        &rt,
+        &mut Lpt::new(),
+        A_WRITER_IS_DONE_WHETHER_ITS_BYTE_WAS_WRITTEN_OR_NOT,
+    );
+    all(&rt, &mut Ptr::new(), A_RESET_CLEARS_THE_FLAGS_ALONE);
+    all(&rt, &mut Ptp::new(), A_RESET_CLEARS_THE_FLAGS_ALONE);
+    all(&rt, &mut Lpt::new(), A_RESET_CLEARS_THE_FLAGS_ALONE);
     all(
         &rt,
         &mut Ptr::new(),
@@ -168,19 +149,6 @@ fn a_register_takes_its_limits_and_nothing_past_them(rt: HostRuntime) {
         &mut Lpt::new(),
         A_REGISTER_TAKES_ITS_LIMITS_AND_NOTHING_PAST_THEM,
     );
-}
-
-const THE_READER_TAKES_EIGHT_BITS: &str = "| set 3 0 = refused 300 | set 3 65536 = refused 300
-| set 4 0o200 = taken 0o200 | set 4 0o377 = taken 0o377";
-
-const THE_PUNCH_TAKES_EIGHT_BITS: &str = "| set 3 0 = refused 200 | set 3 65536 = refused 200
-| set 4 0o200 = taken 0o200 | set 4 0o377 = taken 0o377";
-
-const THE_PRINTER_TAKES_SEVEN: &str = "| set 3 0 = refused 500 | set 3 65536 = refused 500
-| set 4 0o200 = refused 0 | set 4 0o377 = refused 0";
-
-#[test]
-fn a_time_of_0_is_refused_and_an_eighth_bit_by_the_printer_alone(rt: HostRuntime) {
     all(&rt, &mut Ptr::new(), THE_READER_TAKES_EIGHT_BITS);
     all(&rt, &mut Ptp::new(), THE_PUNCH_TAKES_EIGHT_BITS);
     all(&rt, &mut Lpt::new(), THE_PRINTER_TAKES_SEVEN);

@@ -53,11 +53,6 @@ const THE_FUNCTION_COMES_BEFORE_THE_PULSE: &str =
 1 1 1 9 3 5 6 7 1 | NIOC 0 = 0 cancel | 0 0 1 9 3 5 6 7 0
 1 0 1 9 3 5 6 7 1 | DOAC 0o12 = 0 cancel | 0 0 1 9 3 5 6 7 0";
 
-#[test]
-fn the_function_comes_before_the_pulse(rt: HostRuntime) {
-    all_in_place(&rt, THE_FUNCTION_COMES_BEFORE_THE_PULSE);
-}
-
 const A_REGISTER_TAKES_ITS_LIMITS_AND_NOTHING_PAST_THEM: &str =
     "| kind = MTA | 0 0 0 1000 0 0 0 0 0 0 0 0 0 0 0 0 0
 | set 0 2 = refused 0 | set 0 0 = taken 0 | set 0 1 = taken 1
@@ -98,11 +93,6 @@ const A_COMMAND_IS_WANTED_AT_THE_PLACE_OF_ITS_DRIVE: &str =
 1 0 0 9 7 5 5 0o4000 0 | due 4 = tape 7 400 5 2048 | 1 0 0 9 7 5 5 0o4000 0
 1 0 0 9 2 5 6 7 0 | due 5 = nothing";
 
-#[test]
-fn a_command_is_wanted_at_the_place_of_its_drive(rt: HostRuntime) {
-    all_in_place(&rt, A_COMMAND_IS_WANTED_AT_THE_PLACE_OF_ITS_DRIVE);
-}
-
 const STAT_SAYS_WHAT_AN_OPERATION_CAME_TO: &str =
     "1 0 0 9 3 5 6 7 0 | got 2 tape plain 8 0 0 = keep go | 0 1 0 9 3 5 6 7 1
 1 0 0 9 3 5 6 7 0 | got 2 tape plain 8 0 0 flagged = keep go | 0 1 0 9 3 5 6 7 0o102001
@@ -117,11 +107,6 @@ const STAT_SAYS_WHAT_AN_OPERATION_CAME_TO: &str =
 1 0 0 9 3 5 6 7 0 | got 2 tape plain 8 0 0 odd lost = keep go | 0 1 0 9 3 5 6 7 0o100023
 1 0 0 9 3 5 6 7 0 | got 2 tape plain 8 0 0 odd flagged lost = keep go | 0 1 0 9 3 5 6 7 0o102023";
 
-#[test]
-fn stat_says_what_an_operation_came_to(rt: HostRuntime) {
-    all_at_places(&rt, STAT_SAYS_WHAT_AN_OPERATION_CAME_TO);
-}
-
 const MA_AND_WC_MOVE_ON_AND_THE_RIGHT_TAPE_ALONE: &str =
     "1 0 1 9 3 2 0o100 0o7700 0 | got 0 tape plain 8 0o40 0 = keep go | 0 1 1 9 3 2 0o140 0o7740 1 8 100 200 300 400 500 600 700
 1 0 1 9 3 2 0o77770 0o7770 0 | got 7 tape plain 67108864 0o10 0 = keep go | 0 1 1 9 3 2 0 0 1 0 100 200 300 400 500 600 67108864
@@ -130,7 +115,8 @@ const MA_AND_WC_MOVE_ON_AND_THE_RIGHT_TAPE_ALONE: &str =
 1 0 1 9 3 2 0o77777 0o7777 0 | got 5 tape plain 8 65535 65535 = keep go | 0 1 1 9 3 2 0o77776 0o7775 1 0 100 200 300 400 8 600 700";
 
 #[test]
-fn ma_and_wc_move_on_and_the_right_tape_alone(rt: HostRuntime) {
+fn a_tape_keeps_its_places(rt: HostRuntime) {
+    all_at_places(&rt, STAT_SAYS_WHAT_AN_OPERATION_CAME_TO);
     all_at_places(&rt, MA_AND_WC_MOVE_ON_AND_THE_RIGHT_TAPE_ALONE);
 }
 
@@ -150,6 +136,8 @@ const AN_ANSWER_MAY_STOP_THE_MACHINE: &str =
 1 0 1 9 3 5 6 7 4 | got 2 line_full = keep go | 1 0 1 9 3 5 6 7 4 0 100 200 300 400 500 600 700 | reset = keep | 0 0 1 9 0 0 6 7 0";
 
 #[test]
-fn an_answer_may_stop_the_machine(rt: HostRuntime) {
+fn a_tape_does_its_commands(rt: HostRuntime) {
+    all_in_place(&rt, THE_FUNCTION_COMES_BEFORE_THE_PULSE);
+    all_in_place(&rt, A_COMMAND_IS_WANTED_AT_THE_PLACE_OF_ITS_DRIVE);
     all_in_place(&rt, AN_ANSWER_MAY_STOP_THE_MACHINE);
 }

@@ -1,6 +1,6 @@
 // Sources as large as they may be.
-use crate::assembler::checked::holds;
 use crate::assembler::sources::LONGEST_SOURCE;
+use crate::checked::holds;
 use nova_asm::{AsmFault, assemble};
 use std::alloc::{AllocError, Global};
 use std::process::Abort;

@@ -1,6 +1,6 @@
 // Sources with their tapes, or their fault, which another program worked out from the rules alone; the tape of the first one
 // was added up by hand.
-use crate::assembler::checked::holds;
+use crate::checked::holds;
 use nova_asm::{AsmFault, Assembled, assemble};
 use std::alloc::{AllocError, Global};
 use std::process::Abort;

@@ -1,4 +1,4 @@
-use crate::grammar::checked::check;
+use crate::checked::holds;
 use crate::grammar::faults::{refused, taken};
 use crate::grammar::reading::all;
 use scp_parser::{Command, ParseFault, Piece, Verb};
@@ -23,21 +23,11 @@ AT PTR -E|Attach - PTR 0 7 9|-E
 AT PTR ;no comment|Attach - PTR 0 7 18|;no comment
 AT PTR \u{e9}\u{20ac}|Attach - PTR 0 7 12|\u{e9}\u{20ac}";
 
-#[test]
-fn attach_takes_an_option_a_unit_and_the_rest_of_the_line(rt: HostRuntime) {
-    all(&rt, ATTACH_TAKES_AN_OPTION_A_UNIT_AND_THE_REST_OF_THE_LINE);
-}
-
 const ATTACH_TAKES_A_PORT_FOR_THE_SECOND_TERMINAL: &str = "AT TTI1 4000|AttachPort TTI1 4000
 at tti1 0|AttachPort TTI1 0
 ATTACH TTI1 0007|AttachPort TTI1 7
 AT TTI1 65536 \t|AttachPort TTI1 65536
 AT TTI1 9223372036854775809|AttachPort TTI1 max";
-
-#[test]
-fn attach_takes_a_port_for_the_second_terminal(rt: HostRuntime) {
-    all(&rt, ATTACH_TAKES_A_PORT_FOR_THE_SECOND_TERMINAL);
-}
 
 const DETACH_TAKES_A_UNIT_OR_ALL: &str = "DETACH ALL|Detach -
 det all |Detach -
@@ -48,7 +38,9 @@ DETACH mta5|Detach MTA 5
 DET TTI1|Detach TTI1 0";
 
 #[test]
-fn detach_takes_a_unit_or_all(rt: HostRuntime) {
+fn attach_and_detach_take_a_unit(rt: HostRuntime) {
+    all(&rt, ATTACH_TAKES_AN_OPTION_A_UNIT_AND_THE_REST_OF_THE_LINE);
+    all(&rt, ATTACH_TAKES_A_PORT_FOR_THE_SECOND_TERMINAL);
     all(&rt, DETACH_TAKES_A_UNIT_OR_ALL);
 }
 
@@ -116,9 +108,9 @@ fn named(command: &Command) -> Option<(Piece, &str)> {
 fn names(rt: &impl Abort, command: &Command, place: Piece, bytes: &[u8]) {
     match named(command) {
         Some((at, name)) => {
-            check(rt, at == place && name.as_bytes() == bytes, "another name");
+            holds(rt, at == place && name.as_bytes() == bytes, "another name");
         }
-        None => check(rt, false, "no file is attached"),
+        None => holds(rt, false, "no file is attached"),
     }
 }
 

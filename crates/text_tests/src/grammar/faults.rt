@@ -1,4 +1,4 @@
-use crate::grammar::checked::check;
+use crate::checked::holds;
 use crate::grammar::words::place;
 use scp_parser::{Command, ParseFault, read_command};
 use std::process::Abort;
@@ -19,7 +19,7 @@ pub fn fault(wanted: &str) -> Option<ParseFault> {
 
 /// A line of these bytes is no command, for that fault.
 pub fn refused(rt: &impl Abort, command: &mut Command, line: &[u8], fault: ParseFault) {
-    check(
+    holds(
         rt,
         read_command(line, command) == Err(fault),
         "a line is not refused so",
@@ -28,7 +28,7 @@ pub fn refused(rt: &impl Abort, command: &mut Command, line: &[u8], fault: Parse
 
 /// A line of these bytes is a command.
 pub fn taken(rt: &impl Abort, command: &mut Command, line: &[u8]) {
-    check(
+    holds(
         rt,
         read_command(line, command) == Ok(()),
         "a line is not taken",

@@ -1,4 +1,4 @@
-use crate::grammar::checked::check;
+use crate::checked::holds;
 use crate::grammar::faults::{refused, taken};
 use crate::grammar::reading::all;
 use crate::grammar::seen::seen;
@@ -55,11 +55,6 @@ SHOW PTR|ShowUnit PTR 0
 SHOW tti1|ShowUnit TTI1 0
 SHOW MTA|ShowUnit MTA 0
 SHOW mta7|ShowUnit MTA 7";
-
-#[test]
-fn reads_the_names_and_numbers_of_commands(rt: HostRuntime) {
-    all(&rt, READS_THE_NAMES_AND_NUMBERS_OF_COMMANDS);
-}
 
 const ANSWERS_THE_FIRST_FAULT: &str = "R|Unknown
 RE|Unknown
@@ -149,13 +144,14 @@ SHOW TIME X|Extra 10
 SHOW MTA1 MTA2|Extra 10";
 
 #[test]
-fn answers_the_first_fault(rt: HostRuntime) {
+fn lines_are_read(rt: HostRuntime) {
+    all(&rt, READS_THE_NAMES_AND_NUMBERS_OF_COMMANDS);
     all(&rt, ANSWERS_THE_FIRST_FAULT);
 }
 
 /// The command is RUN 7.
 fn runs(rt: &impl Abort, command: &Command) {
-    check(
+    holds(
         rt,
         seen(&command.verb) == ("Run", numbers("7")),
         "it is not RUN 7",

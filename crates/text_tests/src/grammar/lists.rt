@@ -1,4 +1,4 @@
-use crate::grammar::checked::check;
+use crate::checked::holds;
 use crate::grammar::reading::all;
 use crate::grammar::words::{device, item, number, rel};
 use operand_forms::{Condition, Item, Listing, Test};
@@ -17,18 +17,18 @@ fn listing_of(verb: &Verb) -> Option<&Listing> {
 pub fn same_list(rt: &impl Abort, verb: &Verb, line: &str, wanted: &str) {
     match listing_of(verb) {
         Some(listing) => list_is(rt, listing, line, wanted),
-        None => check(rt, false, line),
+        None => holds(rt, false, line),
     }
 }
 
 fn list_is(rt: &impl Abort, listing: &Listing, line: &str, wanted: &str) {
     match wanted.strip_prefix("-M ") {
         Some(others) => {
-            check(rt, listing.symbolic, line);
+            holds(rt, listing.symbolic, line);
             places_are(rt, listing, line, others);
         }
         None => {
-            check(rt, !listing.symbolic, line);
+            holds(rt, !listing.symbolic, line);
             places_are(rt, listing, line, wanted);
         }
     }
@@ -36,22 +36,22 @@ fn list_is(rt: &impl Abort, listing: &Listing, line: &str, wanted: &str) {
 
 fn places_are(rt: &impl Abort, listing: &Listing, line: &str, wanted: &str) {
     let (name, items) = wanted.split_once(' ').unwrap_or((wanted, ""));
-    check(rt, Some(listing.device) == device(name), line);
+    holds(rt, Some(listing.device) == device(name), line);
     same_items(rt, listing.items.as_slice(), line, items);
 }
 
 fn same_items(rt: &impl Abort, items: &[Item], line: &str, words: &str) {
-    check(rt, words.split_whitespace().count() == items.len(), line);
+    holds(rt, words.split_whitespace().count() == items.len(), line);
     for (held, word) in items.iter().zip(words.split_whitespace()) {
-        check(rt, Some(*held) == item(word), line);
+        holds(rt, Some(*held) == item(word), line);
     }
 }
 
 /// The condition of a list: the mask or -, the comparison, and the value; - alone is none.
 pub fn same_condition(rt: &impl Abort, verb: &Verb, line: &str, wanted: &str) {
     match listing_of(verb) {
-        Some(listing) => check(rt, listing.condition == condition(wanted), line),
-        None => check(rt, false, line),
+        Some(listing) => holds(rt, listing.condition == condition(wanted), line),
+        None => holds(rt, false, line),
     }
 }
 
@@ -68,8 +68,8 @@ fn condition(words: &str) -> Option<Condition> {
 /// What an ASSERT tests: the device, the item, the comparison, and the value.
 pub fn same_test(rt: &impl Abort, verb: &Verb, line: &str, wanted: &str) {
     match verb {
-        Verb::Assert(test) => check(rt, Some(*test) == test_of(wanted), line),
-        _ => check(rt, false, line),
+        Verb::Assert(test) => holds(rt, Some(*test) == test_of(wanted), line),
+        _ => holds(rt, false, line),
     }
 }
 
@@ -125,11 +125,6 @@ D -M 5,6 HALT|Items -M CPU At:5 At:6
 E QTY|Items CPU Unknown
 E 0,1,2,3,4,5,6,7,10,11,12,13,C,ALL,STATE,X|Items CPU At:0 At:1 At:2 At:3 At:4 At:5 At:6 At:7 At:8 At:9 At:10 At:11 Reg:4 All State Unknown";
 
-#[test]
-fn reads_the_items_of_a_list(rt: HostRuntime) {
-    all(&rt, READS_THE_ITEMS_OF_A_LIST);
-}
-
 const READS_CONDITIONS: &str = "E ALL|Where -
 E =5 ALL|Where - Eq 5
 E !=177777 ALL|Where - Ne 0o177777
@@ -147,6 +142,7 @@ E &40000000000=1 ALL|Where max Eq 1
 E TTI =5 ALL|Where - Eq 5";
 
 #[test]
-fn reads_conditions(rt: HostRuntime) {
+fn lists_are_read(rt: HostRuntime) {
+    all(&rt, READS_THE_ITEMS_OF_A_LIST);
     all(&rt, READS_CONDITIONS);
 }

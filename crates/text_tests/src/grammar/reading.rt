@@ -1,5 +1,5 @@
 // Rows of tables: a command line, a bar, and what it reads as.
-use crate::grammar::checked::check;
+use crate::checked::holds;
 use crate::grammar::faults::fault;
 use crate::grammar::lists::{same_condition, same_list, same_test};
 use crate::grammar::seen::seen;
@@ -17,7 +17,7 @@ pub fn all(rt: &impl Abort, table: &str) {
     for row in table.lines() {
         match row.split_once('|') {
             Some((line, wanted)) => reads(rt, &mut command, line, wanted),
-            None => check(rt, row.is_empty(), row),
+            None => holds(rt, row.is_empty(), row),
         }
     }
 }
@@ -25,9 +25,9 @@ pub fn all(rt: &impl Abort, table: &str) {
 fn reads(rt: &impl Abort, command: &mut Command, line: &str, wanted: &str) {
     let answer = read_command(line.as_bytes(), command);
     match fault(wanted) {
-        Some(fault) => check(rt, answer == Err(fault), line),
+        Some(fault) => holds(rt, answer == Err(fault), line),
         None => {
-            check(rt, answer == Ok(()) && command.length == line.len(), line);
+            holds(rt, answer == Ok(()) && command.length == line.len(), line);
             asks(rt, command, line, wanted);
         }
     }
@@ -51,14 +51,14 @@ fn verb_is(rt: &impl Abort, verb: &Verb, line: &str, wanted: &str) {
         "Assert" => same_test(rt, verb, line, operands),
         _ => {
             let (given, held) = seen(verb);
-            check(rt, given == name && held == numbers(operands), line);
+            holds(rt, given == name && held == numbers(operands), line);
         }
     }
 }
 
 fn names(rt: &impl Abort, command: &Command, line: &str, name: &str) {
     match &command.verb {
-        Verb::Attach { .. } => check(rt, command.file_name() == name, line),
-        _ => check(rt, false, line),
+        Verb::Attach { .. } => holds(rt, command.file_name() == name, line),
+        _ => holds(rt, false, line),
     }
 }

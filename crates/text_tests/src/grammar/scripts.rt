@@ -13,21 +13,11 @@ DO 1 2|Do 0 0 3 4 5 6
 DO s -V -E|Do 0 0 3 4 5 10
 DO -V -E -E x|Do 1 1 9 11 12 13";
 
-#[test]
-fn do_takes_options_a_name_and_arguments(rt: HostRuntime) {
-    all(&rt, DO_TAKES_OPTIONS_A_NAME_AND_ARGUMENTS);
-}
-
 const GOTO_TAKES_A_WORD: &str = "GOTO loop|Goto 5 9
 got 1|Goto 4 5
 GOTO :x|Goto 5 7
 GOTO\t;a\t|Goto 5 7
 GOTO é|Goto 5 7";
-
-#[test]
-fn goto_takes_a_word(rt: HostRuntime) {
-    all(&rt, GOTO_TAKES_A_WORD);
-}
 
 const ECHO_TAKES_ALL_BEHIND_ONE_BLANK: &str = "ECHO a|Echo 5 6
 ec|Echo 2 2
@@ -37,11 +27,6 @@ ECHO  a |Echo 5 8
 ECHO\t\ta|Echo 5 7
  ECHO a; b|Echo 6 10
 ECHO \"a\"|Echo 5 8";
-
-#[test]
-fn echo_takes_all_behind_one_blank(rt: HostRuntime) {
-    all(&rt, ECHO_TAKES_ALL_BEHIND_ONE_BLANK);
-}
 
 const ASSERT_TAKES_AN_ITEM_AND_A_COMPARISON: &str = "ASSERT AC0=1|Assert CPU Reg:0 Eq 1
 as pc!=100|Assert CPU Reg:5 Ne 0o100
@@ -55,11 +40,6 @@ AS XYZ=40000000000|Assert CPU Unknown Eq max
 AS 40000000000=0|Assert CPU At:max Eq 0
 AS PTR 100=0 |Assert PTR At:0o100 Eq 0
 AS PTR=0|Assert CPU Unknown Eq 0";
-
-#[test]
-fn assert_takes_an_item_and_a_comparison(rt: HostRuntime) {
-    all(&rt, ASSERT_TAKES_AN_ITEM_AND_A_COMPARISON);
-}
 
 const SCRIPTS_HAVE_ONE_FAULT: &str = "DO|Missing
 DO \t|Missing
@@ -97,6 +77,10 @@ AS TTI TTO BUF=0|BadName 7
 AS -M AC0=0|BadName 3";
 
 #[test]
-fn scripts_have_one_fault(rt: HostRuntime) {
+fn the_commands_of_scripts_are_read(rt: HostRuntime) {
+    all(&rt, DO_TAKES_OPTIONS_A_NAME_AND_ARGUMENTS);
+    all(&rt, GOTO_TAKES_A_WORD);
+    all(&rt, ECHO_TAKES_ALL_BEHIND_ONE_BLANK);
+    all(&rt, ASSERT_TAKES_AN_ITEM_AND_A_COMPARISON);
     all(&rt, SCRIPTS_HAVE_ONE_FAULT);
 }

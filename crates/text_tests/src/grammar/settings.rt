@@ -7,18 +7,8 @@ SET CPU 007K|SetSize 7
 SET\tCPU\t16K\t|SetSize 16
 SET CPU 9223372036854775809K|SetSize max";
 
-#[test]
-fn set_takes_a_size_of_memory(rt: HostRuntime) {
-    all(&rt, SET_TAKES_A_SIZE_OF_MEMORY);
-}
-
 const SET_TAKES_A_DISCONNECTION: &str = "SET TTI1 DISCONNECT|Disconnect TTI1
 set tti1 disconnect\t|Disconnect TTI1";
-
-#[test]
-fn set_takes_a_disconnection(rt: HostRuntime) {
-    all(&rt, SET_TAKES_A_DISCONNECTION);
-}
 
 const SETTINGS_HAVE_ONE_FAULT: &str = "SET|Missing
 SET \t|Missing
@@ -42,6 +32,8 @@ SET TTI1 DISCONNECTED|BadName 9
 SET TTI1 DISCONNECT 1|Extra 20";
 
 #[test]
-fn settings_have_one_fault(rt: HostRuntime) {
+fn settings_are_read(rt: HostRuntime) {
+    all(&rt, SET_TAKES_A_SIZE_OF_MEMORY);
+    all(&rt, SET_TAKES_A_DISCONNECTION);
     all(&rt, SETTINGS_HAVE_ONE_FAULT);
 }

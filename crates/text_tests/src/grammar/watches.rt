@@ -24,21 +24,11 @@ BREAK 1;00|Break 1 1 8 10
 B 5;\"a;b\";;c|Break 5 1 4 12
 BREAK 100 ; ; |Break 0o100 1 12 13";
 
-#[test]
-fn break_takes_an_address_a_count_and_actions(rt: HostRuntime) {
-    all(&rt, BREAK_TAKES_AN_ADDRESS_A_COUNT_AND_ACTIONS);
-}
-
 const NOBREAK_TAKES_AN_ADDRESS_OR_ALL: &str = "NOBREAK ALL|NoBreak -
 nob all |NoBreak -
 NOB 100|NoBreak 0o100
 NOBR 0 \t|NoBreak 0
 NOBREAK 77777777777|NoBreak max";
-
-#[test]
-fn nobreak_takes_an_address_or_all(rt: HostRuntime) {
-    all(&rt, NOBREAK_TAKES_AN_ADDRESS_OR_ALL);
-}
 
 const EXPECT_TAKES_A_COUNT_A_TEXT_AND_ACTIONS: &str = "EXPECT \"OK\"|Expect 1 7 11 11 11
 EXP \"\"|Expect 1 4 6 6 6
@@ -54,11 +44,6 @@ EXPECT \"A\"\tB|Expect 1 7 10 11 12
 EXPECT \"[2]\"|Expect 1 7 12 12 12
 EXPECT [3]\t\" \" x|Expect 3 11 14 15 16";
 
-#[test]
-fn expect_takes_a_count_a_text_and_actions(rt: HostRuntime) {
-    all(&rt, EXPECT_TAKES_A_COUNT_A_TEXT_AND_ACTIONS);
-}
-
 const SEND_TAKES_TIMES_AND_A_TEXT: &str = "SEND \"Y\"|Send 0 1000 5 8
 SEN \"\" |Send 0 1000 4 6
 send \"a\\r\"|Send 0 1000 5 10
@@ -70,11 +55,6 @@ SEND AFTER=1 DELAY=2 \"Y Z\"|Send 1 2 21 26
 \tSEND\tAfter=4294967295 Delay=4294967296 \"Y\"\t|Send 4294967295 4294967296 40 43
 SEND AFTER=9223372036854775809 DELAY=9223372036854775809 \"Y\"|Send max max 57 60
 SEND \"AFTER=5\"|Send 0 1000 5 14";
-
-#[test]
-fn send_takes_times_and_a_text(rt: HostRuntime) {
-    all(&rt, SEND_TAKES_TIMES_AND_A_TEXT);
-}
 
 const BREAKS_TEXTS_AND_TIMES_HAVE_ONE_FAULT: &str = "B|Missing
 BREAK \t|Missing
@@ -159,6 +139,10 @@ SEND AFTER=5\"Y\"|BadName 5
 SEND AFTER=5 8|BadNumber 13";
 
 #[test]
-fn breaks_texts_and_times_have_one_fault(rt: HostRuntime) {
+fn what_is_watched_is_read(rt: HostRuntime) {
+    all(&rt, BREAK_TAKES_AN_ADDRESS_A_COUNT_AND_ACTIONS);
+    all(&rt, NOBREAK_TAKES_AN_ADDRESS_OR_ALL);
+    all(&rt, EXPECT_TAKES_A_COUNT_A_TEXT_AND_ACTIONS);
+    all(&rt, SEND_TAKES_TIMES_AND_A_TEXT);
     all(&rt, BREAKS_TEXTS_AND_TIMES_HAVE_ONE_FAULT);
 }

@@ -1,5 +1,5 @@
 // Actions of breaks and expects: texts that are split at semicolons, and wait.
-use crate::watched::texts::check;
+use crate::checked::holds;
 use expect_actions::Actions;
 use std::process::Abort;
 use std::test::Fail;
@@ -47,7 +47,7 @@ fn is_split(actions: &mut Actions, line: &str) -> bool {
 
 fn all(rt: &impl Abort, actions: &mut Actions, table: &str) {
     for line in table.lines() {
-        check(rt, is_split(actions, line), line);
+        holds(rt, is_split(actions, line), line);
     }
 }
 
@@ -97,8 +97,8 @@ fn are_taken_away(actions: &mut Actions) -> bool {
 #[test]
 fn actions_go_in_front_of_those_that_wait(rt: HostRuntime) -> Result<(), Fail> {
     let mut actions = Actions::new(rt.alloc())?;
-    check(&rt, go_in_front(&mut actions), "in front");
-    check(&rt, are_taken_away(&mut actions), "taken away");
+    holds(&rt, go_in_front(&mut actions), "in front");
+    holds(&rt, are_taken_away(&mut actions), "taken away");
     Ok(())
 }
 
@@ -118,7 +118,7 @@ fn are_64_at_most(actions: &mut Actions) -> bool {
 #[test]
 fn no_more_than_64_actions_wait(rt: HostRuntime) -> Result<(), Fail> {
     let mut actions = Actions::new(rt.alloc())?;
-    check(&rt, are_64_at_most(&mut actions), "64 actions");
+    holds(&rt, are_64_at_most(&mut actions), "64 actions");
     Ok(())
 }
 
@@ -129,6 +129,6 @@ fn keeps(actions: &mut Actions, text: &[u8]) -> bool {
 #[test]
 fn an_action_of_512_bytes_is_kept(rt: HostRuntime) -> Result<(), Fail> {
     let mut actions = Actions::new(rt.alloc())?;
-    check(&rt, keeps(&mut actions, &[b'x'; 512]), "512 bytes");
+    holds(&rt, keeps(&mut actions, &[b'x'; 512]), "512 bytes");
     Ok(())
 }

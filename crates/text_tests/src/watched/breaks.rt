@@ -1,6 +1,7 @@
 // The list of the breaks, as lines that say what is called and what it comes to. A break is its address, its count and its
 // actions, with colons between them.
-use crate::watched::texts::{check, count, cut, place};
+use crate::checked::holds;
+use crate::watched::texts::{count, cut, place};
 use expect_actions::{AddFault, Breaks};
 use nova_word::{Addr, Word};
 use std::process::Abort;
@@ -12,7 +13,7 @@ pub fn address(digits: &str) -> Addr {
 
 fn all(rt: &impl Abort, breaks: &mut Breaks, table: &str) {
     for line in table.lines() {
-        check(rt, is_so(breaks, line), line);
+        holds(rt, is_so(breaks, line), line);
     }
 }
 
@@ -150,7 +151,7 @@ goes 510";
 #[test]
 fn no_more_than_256_breaks_are_there(rt: HostRuntime) -> Result<(), Fail> {
     let mut breaks = Breaks::new(rt.alloc())?;
-    check(&rt, adds_256(&mut breaks), "256 breaks");
+    holds(&rt, adds_256(&mut breaks), "256 breaks");
     all(&rt, &mut breaks, FULL);
     Ok(())
 }

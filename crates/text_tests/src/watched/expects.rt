@@ -1,13 +1,14 @@
 // The list of the texts that are waited for, and the tail of what was printed, as lines that say what is called and what it
 // comes to. A text that is waited for is its count, its bytes and its actions, with colons between them.
-use crate::watched::texts::{check, count, cut, place};
+use crate::checked::holds;
+use crate::watched::texts::{count, cut, place};
 use expect_actions::{AddFault, Expects};
 use std::process::Abort;
 use std::test::Fail;
 
 fn all(rt: &impl Abort, expects: &mut Expects, table: &str) {
     for line in table.lines() {
-        check(rt, is_so(expects, line), line);
+        holds(rt, is_so(expects, line), line);
     }
 }
 
@@ -89,7 +90,7 @@ fn keeps_its_tail(expects: &mut Expects) -> bool {
 fn the_tail_has_64_bytes(rt: HostRuntime) -> Result<(), Fail> {
     let mut expects = Expects::new(rt.alloc())?;
     all(&rt, &mut expects, TAIL);
-    check(&rt, keeps_its_tail(&mut expects), "a tail");
+    holds(&rt, keeps_its_tail(&mut expects), "a tail");
     Ok(())
 }
 
@@ -126,7 +127,7 @@ stops 63 c";
 #[test]
 fn no_more_than_64_expects_are_there(rt: HostRuntime) -> Result<(), Fail> {
     let mut expects = Expects::new(rt.alloc())?;
-    check(&rt, adds_64(&mut expects), "64 texts");
+    holds(&rt, adds_64(&mut expects), "64 texts");
     all(&rt, &mut expects, FULL);
     Ok(())
 }

@@ -1,5 +1,6 @@
 // Keys files, as lines of text, in which a ~ stands for the end of a line, and what is read behind a bar.
-use crate::watched::texts::{check, count, cut, number, place};
+use crate::checked::holds;
+use crate::watched::texts::{count, cut, number, place};
 use expect_actions::{Keys, KeysFault};
 use std::alloc::{AllocError, Global};
 use std::process::Abort;
@@ -48,7 +49,7 @@ fn comes(keys: &Keys, taken: u64, key: &str) -> bool {
 
 fn all(rt: &impl Abort, alloc: Global, table: &str) -> Result<(), Fail> {
     for line in table.lines() {
-        check(rt, is_read(alloc, line)?, line);
+        holds(rt, is_read(alloc, line)?, line);
     }
     Ok(())
 }
@@ -61,11 +62,6 @@ const FILES: &str = "
 5 \"\"~6 \"x\"|6:120
 1152921504606846976 \"z\"~|1152921504606846976:122
 1 \"1 \\\"\\n\"~|1:49|1:32|1:34|1:10";
-
-#[test]
-fn files_give_their_keys(rt: HostRuntime) -> Result<(), Fail> {
-    all(&rt, rt.alloc(), FILES)
-}
 
 const FAULTS: &str = "~|0
 0 \"a\"\r~|0
@@ -84,8 +80,10 @@ const FAULTS: &str = "~|0
 0 \"a\"~1 \"b\"~2 \"c~\"~|12";
 
 #[test]
-fn the_first_faulty_line_is_told(rt: HostRuntime) -> Result<(), Fail> {
-    all(&rt, rt.alloc(), FAULTS)
+fn keys_files_are_read(rt: HostRuntime) -> Result<(), Fail> {
+    all(&rt, rt.alloc(), FILES)?;
+    all(&rt, rt.alloc(), FAULTS)?;
+    Ok(())
 }
 
 /// A line at time 0 with so many keys, and one behind it at time 1 with one key more.
@@ -119,14 +117,14 @@ fn are_too_many(alloc: Global, count: usize, place: usize) -> Result<bool, Alloc
 
 #[test]
 fn a_file_has_at_most_65536_keys(rt: HostRuntime) -> Result<(), Fail> {
-    check(&rt, just_fit(rt.alloc())?, "65536 keys");
-    check(&rt, are_too_many(rt.alloc(), 65536, 65541)?, "65537 keys");
-    check(&rt, are_too_many(rt.alloc(), 65537, 0)?, "65538 keys");
+    holds(&rt, just_fit(rt.alloc())?, "65536 keys");
+    holds(&rt, are_too_many(rt.alloc(), 65536, 65541)?, "65537 keys");
+    holds(&rt, are_too_many(rt.alloc(), 65537, 0)?, "65538 keys");
     Ok(())
 }
 
 #[test]
 fn without_a_file_no_key_is_due(rt: HostRuntime) {
     let keys = Keys::none(rt.alloc());
-    check(&rt, keys.due(0, u64::MAX).is_none(), "no keys");
+    holds(&rt, keys.due(0, u64::MAX).is_none(), "no keys");
 }

@@ -1,13 +1,14 @@
 // Bytes that are sent to the keyboard, as lines that say what is called and what it comes to. What is sent is the time then,
 // AFTER, DELAY and the bytes, with colons between them; a byte that waits is its time and itself.
-use crate::watched::texts::{check, count, cut, number, place};
+use crate::checked::holds;
+use crate::watched::texts::{count, cut, number, place};
 use expect_actions::{Full, Sends};
 use std::process::Abort;
 use std::test::Fail;
 
 fn all(rt: &impl Abort, sends: &mut Sends, table: &str) {
     for line in table.lines() {
-        check(rt, is_so(sends, line), line);
+        holds(rt, is_so(sends, line), line);
     }
 }
 
@@ -143,7 +144,7 @@ empty";
 #[test]
 fn no_more_than_4096_bytes_wait(rt: HostRuntime) -> Result<(), Fail> {
     let mut sends = Sends::new(rt.alloc())?;
-    check(&rt, sends.add(0, 0, 1, &[b'a'; 4095]).is_ok(), "4095 bytes");
+    holds(&rt, sends.add(0, 0, 1, &[b'a'; 4095]).is_ok(), "4095 bytes");
     all(&rt, &mut sends, MANY);
     Ok(())
 }

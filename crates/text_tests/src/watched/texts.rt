@@ -1,11 +1,4 @@
-// Lines of text, and what is asserted of them.
-use std::process::Abort;
-
-/// It is so at that line.
-pub fn check(rt: &impl Abort, so: bool, line: &str) {
-    assert!(rt; so, "{line}");
-}
-
+// Words of lines.
 /// What stands before and behind a sign; nothing behind it where it is not there.
 pub fn cut(text: &str, sign: char) -> (&str, &str) {
     text.split_once(sign).unwrap_or((text, ""))

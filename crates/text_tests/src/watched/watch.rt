@@ -1,6 +1,7 @@
 // The tables of a watch together, as lines that name a table before what is called of it.
+use crate::checked::holds;
 use crate::watched::breaks::address;
-use crate::watched::texts::{check, cut};
+use crate::watched::texts::cut;
 use crate::watched::{breaks, expects, sends};
 use expect_actions::{Breaks, Sends, Watch};
 use std::alloc::Global;
@@ -9,7 +10,7 @@ use std::test::Fail;
 
 fn all(rt: &impl Abort, watch: &mut Watch, table: &str) {
     for line in table.lines() {
-        check(rt, is_so(watch, line), line);
+        holds(rt, is_so(watch, line), line);
     }
 }
 
@@ -97,7 +98,7 @@ fn add_sends(sends: &Sends, again: &mut Sends) -> bool {
 fn are_added(rt: &impl Abort, watch: &Watch, again: &mut Watch) {
     let so = add_breaks(&watch.breaks, &mut again.breaks)
         && add_sends(&watch.sends, &mut again.sends);
-    check(rt, so, "added again");
+    holds(rt, so, "added again");
 }
 
 const FILLED: &str = "breaks add 65:4:EX
