@@ -1,6 +1,6 @@
 ghost use Rattle.std.specs.Prelude.{◌≡◌};
 
-use crate::tapes::texts::number;
+use crate::texts::number;
 use fault_counts::raised_count;
 use host_files::{Bytes, Failed, WriteFault};
 use std::alloc::{AllocError, Global};
