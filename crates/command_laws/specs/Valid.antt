@@ -21,8 +21,8 @@ use Rattle.scp_commands.specs.Effect.{effect}
 use Rattle.command_session.specs.Doing.{Does}
 use Rattle.command_session.specs.Remains.{Remains}
 
--- a machine of this program, as it is seen: it has the standard units, and no numbers of files, no marks of the disk's pages and
--- no lines of its own
+-- a machine of this program, as it is seen: it has the standard units, and no numbers of files, nothing kept aside and no lines of
+-- its own
 pub record IsProgramMachine (m : MachineState) : Type 0 where
   pub units : AreStandard m.units
   pub numbers : map unnumbered m.slots ≡ m.slots

@@ -32,7 +32,8 @@ pub fn quoted_texts_read_back()
 
 /// The law of what every state is that commands work on: a command leaves such a state, each of its texts comes in one,
 /// and a script that it has read is of bytes. What the disk holds of its file is what is in it, where nothing is to be
-/// written back, as long as nothing else has changed that file and it was no longer where SAVE has written it back.
+/// written back, as long as the disk alone has changed that file, or it has the bytes that it had and a SAVE had
+/// nothing to write back.
 pub fn commands_keep_states()
     ensures { CommandsKeepStates }
 {}

@@ -1,4 +1,4 @@
-use Rattle.std.proofs.Common.{ap, refl, sym, subst, Err}
+use Rattle.std.proofs.Common.{ap, refl, Err}
 use Rattle.file_commands.specs.Notes.{notes_said}
 use Rattle.command_session.specs.Live.{CommandState, live_in, beyond}
 use Rattle.nova_machine.specs.Machine.{attached_files}
