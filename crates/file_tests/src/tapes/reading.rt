@@ -3,7 +3,7 @@ ghost use Rattle.std.specs.Prelude.{◌≤◌, ◌<◌, ◌^◌};
 
 use crate::tapes::test_tape::TestTape;
 use crate::tapes::texts::{columns_of, place_of};
-use crate::texts::{equal, holds, number};
+use crate::texts::{equal, number};
 use host_files::FileCall;
 use simh_tape::{Item, TapeFault, read_next, read_previous};
 use std::alloc::Global;
