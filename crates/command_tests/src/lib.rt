@@ -4,8 +4,6 @@
 #[cfg(test)]
 mod answers;
 #[cfg(test)]
-mod boxes;
-#[cfg(test)]
 mod checked;
 #[cfg(test)]
 mod consoles;
@@ -19,6 +17,8 @@ mod media;
 mod ports;
 #[cfg(test)]
 mod rows;
+#[cfg(test)]
+mod scripts;
 #[cfg(test)]
 mod sessions;
 #[cfg(test)]

@@ -1,9 +1,8 @@
 // A session of a machine with the standard units, whose second teletype has a terminal line.
-ghost use Rattle.std.specs.Prelude.{◌≡◌, List, IfOk, map, take};
+ghost use Rattle.std.specs.Prelude.{List, IfOk, map};
 ghost use Rattle.file_traits.specs.State.{Opened};
 ghost use Rattle.unit_files.specs.Open.{AllOpen};
-ghost use Rattle.unit_trait.specs.Kinds.{all_kinds};
-ghost use Rattle.unit_trait.specs.Row.{initial_unit};
+ghost use Rattle.command_words.specs.Standard.{IsStandard};
 ghost use Rattle.state_transfer.specs.SavedValid.{AreStandard};
 
 use crate::checked::check;
@@ -63,7 +62,7 @@ fn play_with<U: Unit, F: Files>(
     table: &str,
     notes: &[Note],
 ) -> Result<(), AllocError>
-    requires { map U.unit_state units.items ≡ map initial_unit (take 10 all_kinds) }
+    requires { IsStandard (map U.unit_state units.items) }
 {
     let mut session = opened(alloc, units)?;
     plays(rt, alloc, &mut session, watched, files, table, notes)
@@ -71,7 +70,7 @@ fn play_with<U: Unit, F: Files>(
 
 /// A session of a machine with these units.
 pub fn opened<U: Unit>(alloc: Global, units: Vec<U>) -> Result<Session<U>, AllocError>
-    requires { map U.unit_state units.items ≡ map initial_unit (take 10 all_kinds) }
+    requires { IsStandard (map U.unit_state units.items) }
     ensures open { IfOk result (λ s. (opened : List Opened) → AllOpen s.machine.slots opened) }
     ensures standard { IfOk result (λ s. AreStandard s.machine.units) }
 {

@@ -1,8 +1,7 @@
 // SAVE and RESTORE of a session with three files, a call on which fails.
-ghost use Rattle.std.specs.Prelude.{◌≡◌, map, take};
+ghost use Rattle.std.specs.Prelude.{map};
 ghost use Rattle.unit_files.specs.Open.{AllOpen};
-ghost use Rattle.unit_trait.specs.Kinds.{all_kinds};
-ghost use Rattle.unit_trait.specs.Row.{initial_unit};
+ghost use Rattle.command_words.specs.Standard.{IsStandard};
 ghost use Rattle.state_transfer.specs.SavedValid.{AreStandard};
 
 use crate::answers::first_unit;
@@ -148,7 +147,7 @@ fn play_with<U: Unit, F: Files>(
     tables: Tables,
     case: Case,
 ) -> Result<(), AllocError>
-    requires { map U.unit_state units.items ≡ map initial_unit (take 10 all_kinds) }
+    requires { IsStandard (map U.unit_state units.items) }
 {
     let mut session = opened(alloc, units)?;
     plays(rt, alloc, &mut session, files, tables, case)

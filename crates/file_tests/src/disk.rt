@@ -249,18 +249,8 @@ fn all(rt: &impl Abort, alloc: Global, table: &str) {
 const A_SECTOR_BEHIND_THE_END_IS_0: &str =
     "700 | none | attach=700 read@0=512 read@1=188 read@2=0 read@8191=0 | 700 0 700";
 
-#[test]
-fn a_sector_behind_the_end_is_0(rt: HostRuntime) {
-    all(&rt, rt.alloc(), A_SECTOR_BEHIND_THE_END_IS_0);
-}
-
 const A_DISK_WITHOUT_A_FILE_SAYS_SO: &str =
     "4 | none | read@0=no_file write@0=no_file flush=no_file attach@read=4 write@0=read_only read@0=4 detach=ok read@0=no_file | 4 0 4";
-
-#[test]
-fn a_disk_without_a_file_says_so(rt: HostRuntime) {
-    all(&rt, rt.alloc(), A_DISK_WITHOUT_A_FILE_SAYS_SO);
-}
 
 // The opening, the length and one read come first. A flush of nothing makes no call, so that the next call, which fails,
 // is none of it, and the last that fails is the closing.
@@ -268,11 +258,6 @@ const A_SECTOR_IS_WRITTEN_BACK_ONCE: &str =
     "600 | 3:0 | attach=600 flush=ok write@2=done | 600 0 600
 600 | 3:0 5:0 | attach=600 flush=ok write@2=done flush=Write:0 flush=ok | 1536 512 600
 600 | 3:0 5:0 | attach=600 flush=ok write@2=done flush=Write:0 flush=ok flush=ok detach=Closing:0 file=no | 1536 512 600";
-
-#[test]
-fn a_sector_is_written_back_once(rt: HostRuntime) {
-    all(&rt, rt.alloc(), A_SECTOR_IS_WRITTEN_BACK_ONCE);
-}
 
 const A_FAILED_FLUSH_LEAVES_A_FIRST_PART: &str =
     "700 | 3:0 | attach=700 write@0=done same@1=done detach=Write:0 file=yes | 700 0 700
@@ -286,20 +271,10 @@ const A_FAILED_FLUSH_LEAVES_A_FIRST_PART: &str =
 700 | 3:600 | attach=700 write@0=done same@1=done detach=Write:600 detach=ok | 1024 512 188
 700 | 3:1024 | attach=700 write@0=done same@1=done detach=Write:1024 detach=ok | 1024 512 188";
 
-#[test]
-fn a_failed_flush_leaves_a_first_part(rt: HostRuntime) {
-    all(&rt, rt.alloc(), A_FAILED_FLUSH_LEAVES_A_FIRST_PART);
-}
-
 const A_FAILING_CALL_REFUSES_AN_IMAGE: &str = "700 | 1:0 | attach=Length:0 file=no | 700 0 700
 700 | 2:0 | attach=Read:0 file=no | 700 0 700
 700 | 3:0 | attach=700 file=yes | 700 0 700
 0 | 2:0 | attach=0 file=yes | 0 0 0";
-
-#[test]
-fn a_failing_call_refuses_an_image(rt: HostRuntime) {
-    all(&rt, rt.alloc(), A_FAILING_CALL_REFUSES_AN_IMAGE);
-}
 
 // The opening, the length and one read come first, and behind a sector that was written the write of the copy, the length
 // and the reads. A failed length or read leaves nothing to be written back, so that a flush makes no call.
@@ -312,6 +287,11 @@ const A_DISK_IS_WRITTEN_BACK_AND_THEN_DIGESTED: &str =
 600 | 4:0 6:0 | attach=600 write@2=done digest=Length:0 flush=ok digest=Read:0 digest=1536:394d4bf460a0167ddc49de1c1a7ef2d3aec311d7f6b6838ec8c17b046288e841 | 1536 512 600";
 
 #[test]
-fn a_disk_is_written_back_and_then_digested(rt: HostRuntime) {
+fn a_disk_is_read_written_and_written_back(rt: HostRuntime) {
+    all(&rt, rt.alloc(), A_SECTOR_BEHIND_THE_END_IS_0);
+    all(&rt, rt.alloc(), A_DISK_WITHOUT_A_FILE_SAYS_SO);
+    all(&rt, rt.alloc(), A_SECTOR_IS_WRITTEN_BACK_ONCE);
+    all(&rt, rt.alloc(), A_FAILED_FLUSH_LEAVES_A_FIRST_PART);
+    all(&rt, rt.alloc(), A_FAILING_CALL_REFUSES_AN_IMAGE);
     all(&rt, rt.alloc(), A_DISK_IS_WRITTEN_BACK_AND_THEN_DIGESTED);
 }

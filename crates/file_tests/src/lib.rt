@@ -1,6 +1,8 @@
-//! Tests of streams and files, in memory and those of units.
+//! Tests of files, streams and lines: in memory, those of units, of the system, tapes and terminal lines.
 #![tactic(auto)]
 
+#[cfg(test)]
+mod adapters;
 #[cfg(test)]
 mod chance;
 #[cfg(test)]
@@ -27,6 +29,10 @@ mod pieces;
 mod piecewise;
 #[cfg(test)]
 mod streams;
+#[cfg(test)]
+mod tapes;
+#[cfg(test)]
+mod terminal;
 #[cfg(test)]
 mod texts;
 #[cfg(test)]

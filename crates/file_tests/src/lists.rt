@@ -146,33 +146,14 @@ fn all_in_memory(rt: &impl Abort, alloc: Global, table: &str) {
 const A_LIST_IS_READ_UP_TO_ITS_END: &str =
     "hello | none | length=5 read@0=hell read@3=lo-- read@5=---- read@67108864=---- faults=0 | hello";
 
-#[test]
-fn a_list_is_read_up_to_its_end(rt: HostRuntime) {
-    all_in_memory(&rt, rt.alloc(), A_LIST_IS_READ_UP_TO_ITS_END);
-}
-
 const A_PIECE_IS_WRITTEN_OVER_THE_BYTES_OR_BEHIND_A_GAP: &str = "hello | none | write@0:J=ok | Jello
 hello | none | write@4:ium=ok | hellium
 hello | none | write@7:!=ok | hello..!
 hello | none | write@8:=ok | hello";
 
-#[test]
-fn a_piece_is_written_over_the_bytes_or_behind_a_gap(rt: HostRuntime) {
-    all_in_memory(
-        &rt,
-        rt.alloc(),
-        A_PIECE_IS_WRITTEN_OVER_THE_BYTES_OR_BEHIND_A_GAP,
-    );
-}
-
 const A_LIST_IS_CUT_OR_FILLED_UP_WITH_ZERO_BYTES: &str = "hello | none | set@0=ok |
 hello | none | set@2=ok | he
 hello | none | set@8=ok | hello...";
-
-#[test]
-fn a_list_is_cut_or_filled_up_with_zero_bytes(rt: HostRuntime) {
-    all_in_memory(&rt, rt.alloc(), A_LIST_IS_CUT_OR_FILLED_UP_WITH_ZERO_BYTES);
-}
 
 const WHAT_PASSES_THE_ROOM_IS_REFUSED: &str =
     "hello | none | write@6:abc=0 write@9:=0 set@9=failed faults=3 | hello";
@@ -192,31 +173,30 @@ fn what_passes_the_room_is_refused(rt: HostRuntime) {
 const A_NAMED_CALL_OF_EACH_KIND_FAILS_AND_CHANGES_NOTHING: &str =
     "hello | 0:0 1:0 2:0 3:0 | length=failed read@0=failed set@0=failed write@0:abc=0 faults=4 length=5 | hello";
 
-#[test]
-fn a_named_call_of_each_kind_fails_and_changes_nothing(rt: HostRuntime) {
-    all_in_memory(
-        &rt,
-        rt.alloc(),
-        A_NAMED_CALL_OF_EACH_KIND_FAILS_AND_CHANGES_NOTHING,
-    );
-}
-
 const A_NAMED_WRITE_WRITES_ITS_FIRST_BYTES: &str = "hello | 0:2 | write@0:abc=2 | abllo
 hello | 0:9 | write@0:abc=3 | abclo
 hello | 0:2 | write@6:abc=2 | hello.ab
 hello | 0:3 | write@6:abc=0 | hello";
-
-#[test]
-fn a_named_write_writes_its_first_bytes(rt: HostRuntime) {
-    all_in_memory(&rt, rt.alloc(), A_NAMED_WRITE_WRITES_ITS_FIRST_BYTES);
-}
 
 const A_LIST_IN_MEMORY_IS_READ_AND_CHANGED_AS_A_FILE_IS: &str =
     "hello | none | length=5 read@0=hell set@0=ok write@0:new=ok | new
 hello | 5:2 | length=5 read@0=hell set@0=ok write@0:new=ok set@0=ok write@0:longer=2 | lo";
 
 #[test]
-fn a_list_in_memory_is_read_and_changed_as_a_file_is(rt: HostRuntime) {
+fn files_in_memory_answer_their_calls(rt: HostRuntime) {
+    all_in_memory(&rt, rt.alloc(), A_LIST_IS_READ_UP_TO_ITS_END);
+    all_in_memory(
+        &rt,
+        rt.alloc(),
+        A_PIECE_IS_WRITTEN_OVER_THE_BYTES_OR_BEHIND_A_GAP,
+    );
+    all_in_memory(&rt, rt.alloc(), A_LIST_IS_CUT_OR_FILLED_UP_WITH_ZERO_BYTES);
+    all_in_memory(
+        &rt,
+        rt.alloc(),
+        A_NAMED_CALL_OF_EACH_KIND_FAILS_AND_CHANGES_NOTHING,
+    );
+    all_in_memory(&rt, rt.alloc(), A_NAMED_WRITE_WRITES_ITS_FIRST_BYTES);
     all_in_memory(
         &rt,
         rt.alloc(),
@@ -228,36 +208,28 @@ fn a_list_in_memory_is_read_and_changed_as_a_file_is(rt: HostRuntime) {
 const A_FILE_THAT_WAS_OPENED_TO_BE_READ_IS_ONE_LIST: &str =
     "hello | none | length=5 read@0=hell length=5 read@4=o--- read@5=---- read@67108864=---- faults=0 | hello";
 
-#[test]
-fn a_file_that_was_opened_to_be_read_is_one_list(rt: HostRuntime) {
-    all_in_a_file(
-        &rt,
-        rt.alloc(),
-        OpenMode::Read,
-        A_FILE_THAT_WAS_OPENED_TO_BE_READ_IS_ONE_LIST,
-    );
-}
-
 const A_FILE_THAT_WAS_OPENED_TO_BE_UPDATED_IS_CHANGED_AS_ONE_LIST: &str =
     "hello | none | set@0=ok write@0:new=ok | new
 hello | none | set@0=ok write@0:new=ok write@5:er=ok set@6=ok | new..e";
-
-#[test]
-fn a_file_that_was_opened_to_be_updated_is_changed_as_one_list(rt: HostRuntime) {
-    all_in_a_file(
-        &rt,
-        rt.alloc(),
-        OpenMode::Update,
-        A_FILE_THAT_WAS_OPENED_TO_BE_UPDATED_IS_CHANGED_AS_ONE_LIST,
-    );
-}
 
 // Call 0 is the opening.
 const A_CALL_THAT_FAILS_ON_THE_FILE_FAILS_ON_THE_LIST: &str =
     "hello | 1:0 2:0 3:0 4:2 | length=failed read@0=failed set@0=failed write@0:abc=2 faults=4 | abllo";
 
 #[test]
-fn a_call_that_fails_on_the_file_fails_on_the_list(rt: HostRuntime) {
+fn calls_on_one_file_answer(rt: HostRuntime) {
+    all_in_a_file(
+        &rt,
+        rt.alloc(),
+        OpenMode::Read,
+        A_FILE_THAT_WAS_OPENED_TO_BE_READ_IS_ONE_LIST,
+    );
+    all_in_a_file(
+        &rt,
+        rt.alloc(),
+        OpenMode::Update,
+        A_FILE_THAT_WAS_OPENED_TO_BE_UPDATED_IS_CHANGED_AS_ONE_LIST,
+    );
     all_in_a_file(
         &rt,
         rt.alloc(),

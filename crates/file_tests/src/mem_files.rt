@@ -84,11 +84,6 @@ fn opens_and_reads<F: Files>(rt: &impl Abort, alloc: Global, files: &mut F) {
     );
 }
 
-#[test]
-fn a_file_is_read(rt: HostRuntime) {
-    plays(&rt, rt.alloc(), "none", Deed::Read, "tape=hello none=none");
-}
-
 /// Writes behind a gap, and cuts the file where that is said.
 fn changes<F: Files>(rt: &impl Abort, files: &mut F, tape: FileId, cut: bool)
     requires open { IsOpen (F.state files.old) tape.0 }
@@ -107,12 +102,6 @@ fn opens_and_changes<F: Files>(rt: &impl Abort, alloc: Global, files: &mut F, cu
     }
 }
 
-#[test]
-fn a_file_is_written_and_cut(rt: HostRuntime) {
-    plays(&rt, rt.alloc(), "none", Deed::Write, "tape=hello..!");
-    plays(&rt, rt.alloc(), "none", Deed::WriteAndCut, "tape=he");
-}
-
 fn makes_and_closes<F: Files>(rt: &impl Abort, alloc: Global, files: &mut F) {
     let emptied = files.open_file(alloc, "tape", OpenMode::Create);
     equal(rt, &emptied, &Ok(FileId(0)), "the first opening");
@@ -129,11 +118,6 @@ fn makes_and_closes<F: Files>(rt: &impl Abort, alloc: Global, files: &mut F) {
         &0,
         "an id that was never given",
     );
-}
-
-#[test]
-fn a_file_is_made_or_emptied_and_closed(rt: HostRuntime) {
-    plays(&rt, rt.alloc(), "none", Deed::Make, "tape= new=");
 }
 
 /// A write that fails as it was named, and one that finds no room.
@@ -155,11 +139,6 @@ fn opens_and_fails<F: Files>(rt: &impl Abort, alloc: Global, files: &mut F) {
     }
 }
 
-#[test]
-fn a_named_write_fails_behind_its_first_bytes(rt: HostRuntime) {
-    plays(&rt, rt.alloc(), "1:2", Deed::FailToWrite, "tape=abllo");
-}
-
 fn fails_to_open<F: Files>(rt: &impl Abort, alloc: Global, files: &mut F) {
     let refused = files.open_file(alloc, "tape", OpenMode::Create);
     equal(rt, &refused, &Err(OpenFault::Failed), "the opening");
@@ -177,7 +156,12 @@ fn opens_and_fails_to_close<F: Files>(rt: &impl Abort, alloc: Global, files: &mu
 }
 
 #[test]
-fn a_named_opening_and_a_named_closing_fail(rt: HostRuntime) {
+fn files_are_opened_and_closed(rt: HostRuntime) {
+    plays(&rt, rt.alloc(), "none", Deed::Read, "tape=hello none=none");
+    plays(&rt, rt.alloc(), "none", Deed::Write, "tape=hello..!");
+    plays(&rt, rt.alloc(), "none", Deed::WriteAndCut, "tape=he");
+    plays(&rt, rt.alloc(), "none", Deed::Make, "tape= new=");
+    plays(&rt, rt.alloc(), "1:2", Deed::FailToWrite, "tape=abllo");
     plays(
         &rt,
         rt.alloc(),

@@ -145,19 +145,15 @@ const EACH_FAILING_CALL_OF_ATTACHING_AND_DETACHING_IS_NOTED: &str =
 6:0 | attach@PTR:tape:there attach@PTP:out:any all name@PTR name@PTP | 3@PTP:1:Closing
 7:0 | attach@PTR:tape:there attach@PTP:out:any all name@PTR name@PTP |";
 
+const A_UNIT_WITHOUT_A_FILE_IS_NOT_DETACHED: &str = "100:0 | detach@PTP=NotAttached |";
+
 #[test]
-fn each_failing_call_of_attaching_and_detaching_is_noted(rt: HostRuntime) {
+fn calls_that_fail_are_noted(rt: HostRuntime) {
     all(
         &rt,
         rt.alloc(),
         EACH_FAILING_CALL_OF_ATTACHING_AND_DETACHING_IS_NOTED,
     );
-}
-
-const A_UNIT_WITHOUT_A_FILE_IS_NOT_DETACHED: &str = "100:0 | detach@PTP=NotAttached |";
-
-#[test]
-fn a_unit_without_a_file_is_not_detached(rt: HostRuntime) {
     all(&rt, rt.alloc(), A_UNIT_WITHOUT_A_FILE_IS_NOT_DETACHED);
 }
 

@@ -64,11 +64,6 @@ fn each_marked_page_is_written_once(rt: HostRuntime) {
 const ONE_SECTOR_OF_A_WHOLE_DISK_IS_ONE_PAGE: &str =
     "4194304 | none | attach=4194304 write@4096=done detach=ok | 1 4096 : 4194304 512 4193792";
 
-#[test]
-fn one_sector_of_a_whole_disk_is_one_page(rt: HostRuntime) {
-    all(&rt, rt.alloc(), ONE_SECTOR_OF_A_WHOLE_DISK_IS_ONE_PAGE);
-}
-
 // The opening, the length and two reads come first. The pages in front of the one whose write failed are written, and of
 // that as much as the fault says beyond its place; the next flush writes all of them again.
 const A_FAILED_PAGE_LEAVES_ALL_MARKS: &str =
@@ -85,7 +80,8 @@ const A_FAILED_PAGE_LEAVES_ALL_MARKS: &str =
 12288 | 6:7 | attach=12288 write@16=done write@0=done flush=Write:8199 read@8=512 | 2 8192 : 12288 519 11769";
 
 #[test]
-fn a_failed_page_leaves_all_marks(rt: HostRuntime) {
+fn pages_are_written_back(rt: HostRuntime) {
+    all(&rt, rt.alloc(), ONE_SECTOR_OF_A_WHOLE_DISK_IS_ONE_PAGE);
     all(&rt, rt.alloc(), A_FAILED_PAGE_LEAVES_ALL_MARKS);
 }
 

@@ -150,69 +150,45 @@ fn all_read(rt: &impl Abort, alloc: Global, table: &str) {
 const A_WRITE_TAKES_WHAT_THERE_IS_ROOM_FOR: &str =
     "5 | write@abc=3 write@defg=2 write@=0 faults=0 write@h=failed faults=1 | abcde";
 
-#[test]
-fn a_write_takes_what_there_is_room_for(rt: HostRuntime) {
-    all_write(&rt, rt.alloc(), A_WRITE_TAKES_WHAT_THERE_IS_ROOM_FOR);
-}
-
 const NAMED_WRITES_FAIL_AND_TAKE_NOTHING: &str =
     "8 | fail=9 fail=9 fail=9 write@a=1 write@b=1 write@c=1 write@d=1 faults=0 | abcd
 8 | fail=0 fail=9 fail=9 write@a=failed write@a=1 write@b=1 write@c=1 faults=1 | abc
 8 | fail=1 fail=1 fail=9 write@a=1 write@a=failed write@b=1 write@c=1 faults=1 | abc
 8 | fail=3 fail=0 fail=2 write@a=failed write@a=1 write@a=failed write@a=failed faults=3 | a";
 
-#[test]
-fn named_writes_fail_and_take_nothing(rt: HostRuntime) {
-    all_write(&rt, rt.alloc(), NAMED_WRITES_FAIL_AND_TAKE_NOTHING);
-}
-
 // The second number names a write of an empty piece.
 const A_NUMBER_OF_A_WRITE_THAT_HAS_PASSED_CHANGES_NOTHING: &str =
     "2 | write@a=1 fail=0 fail=1 write@=failed write@b=1 faults=1 | ab";
 
-#[test]
-fn a_number_of_a_write_that_has_passed_changes_nothing(rt: HostRuntime) {
-    all_write(
-        &rt,
-        rt.alloc(),
-        A_NUMBER_OF_A_WRITE_THAT_HAS_PASSED_CHANGES_NOTHING,
-    );
-}
-
 const ALL_IS_WRITTEN_WHERE_NOTHING_FAILS: &str =
     "5 | put@abc=ok put@=ok put@de=ok faults=0 | abcde";
-
-#[test]
-fn all_is_written_where_nothing_fails(rt: HostRuntime) {
-    all_write(&rt, rt.alloc(), ALL_IS_WRITTEN_WHERE_NOTHING_FAILS);
-}
 
 const A_PIECE_THAT_IS_TAKEN_IN_PARTS_IS_WRITTEN_WHOLE: &str =
     "8 | narrow@abcde=ok faults=0 | abcde";
 
-#[test]
-fn a_piece_that_is_taken_in_parts_is_written_whole(rt: HostRuntime) {
-    all_write(
-        &rt,
-        rt.alloc(),
-        A_PIECE_THAT_IS_TAKEN_IN_PARTS_IS_WRITTEN_WHOLE,
-    );
-}
-
 const PIECES_ARE_WRITTEN_ONE_BEHIND_ANOTHER: &str = "6 | pieces@ab,,c=ok pieces@=ok faults=0 | abc
 6 | fail=1 pieces@ab,c,d=failed faults=1 | ab";
-
-#[test]
-fn pieces_are_written_one_behind_another(rt: HostRuntime) {
-    all_write(&rt, rt.alloc(), PIECES_ARE_WRITTEN_ONE_BEHIND_ANOTHER);
-}
 
 const THE_FIRST_BYTES_STAY_WHERE_A_LATER_WRITE_FAILS: &str =
     "8 | fail=1 narrow@abcde=failed faults=1 | ab
 3 | put@abcde=failed faults=1 | abc";
 
 #[test]
-fn the_first_bytes_stay_where_a_later_write_fails(rt: HostRuntime) {
+fn bytes_and_pieces_are_written(rt: HostRuntime) {
+    all_write(&rt, rt.alloc(), A_WRITE_TAKES_WHAT_THERE_IS_ROOM_FOR);
+    all_write(&rt, rt.alloc(), NAMED_WRITES_FAIL_AND_TAKE_NOTHING);
+    all_write(
+        &rt,
+        rt.alloc(),
+        A_NUMBER_OF_A_WRITE_THAT_HAS_PASSED_CHANGES_NOTHING,
+    );
+    all_write(&rt, rt.alloc(), ALL_IS_WRITTEN_WHERE_NOTHING_FAILS);
+    all_write(
+        &rt,
+        rt.alloc(),
+        A_PIECE_THAT_IS_TAKEN_IN_PARTS_IS_WRITTEN_WHOLE,
+    );
+    all_write(&rt, rt.alloc(), PIECES_ARE_WRITTEN_ONE_BEHIND_ANOTHER);
     all_write(
         &rt,
         rt.alloc(),
@@ -223,11 +199,6 @@ fn the_first_bytes_stay_where_a_later_write_fails(rt: HostRuntime) {
 const A_READ_GIVES_AS_MANY_BYTES_AS_FIT: &str =
     "abcde | read@3=abc read@0= read@3=de- read@3=--- faults=0";
 
-#[test]
-fn a_read_gives_as_many_bytes_as_fit(rt: HostRuntime) {
-    all_read(&rt, rt.alloc(), A_READ_GIVES_AS_MANY_BYTES_AS_FIT);
-}
-
 const NAMED_READS_FAIL_AND_TAKE_NOTHING: &str =
     "abc | fail=9 fail=9 fail=9 next=a next=b next=c next=end next=end faults=0
 abc | fail=0 fail=9 fail=9 next=failed next=a next=b next=c next=end faults=1
@@ -235,17 +206,14 @@ abc | fail=1 fail=1 fail=9 next=a next=failed next=b next=c next=end faults=1
 abc | fail=2 fail=0 fail=4 next=failed next=a next=failed next=b next=failed faults=3
 abc | fail=3 fail=4 fail=2 next=a next=b next=failed next=failed next=failed faults=3";
 
-#[test]
-fn named_reads_fail_and_take_nothing(rt: HostRuntime) {
-    all_read(&rt, rt.alloc(), NAMED_READS_FAIL_AND_TAKE_NOTHING);
-}
-
 // The second number names a read into an empty buffer.
 const A_NUMBER_OF_A_READ_THAT_HAS_PASSED_CHANGES_NOTHING: &str =
     "ab | next=a fail=0 fail=1 read@0=failed next=b faults=1";
 
 #[test]
-fn a_number_of_a_read_that_has_passed_changes_nothing(rt: HostRuntime) {
+fn bytes_are_read(rt: HostRuntime) {
+    all_read(&rt, rt.alloc(), A_READ_GIVES_AS_MANY_BYTES_AS_FIT);
+    all_read(&rt, rt.alloc(), NAMED_READS_FAIL_AND_TAKE_NOTHING);
     all_read(
         &rt,
         rt.alloc(),

@@ -262,163 +262,59 @@ none | attach@PTR:tape:there=5 read_only@PTR=no file@PTR=0 | tape=hello
 none | attach@PTR:tape:read=5 read_only@PTR=yes file@PTR=0 | tape=hello
 none | attach@PTR:tape:new=0 read_only@PTR=no file@PTR=0 | tape=";
 
-#[test]
-fn a_file_that_is_there_is_attached_in_each_mode(rt: HostRuntime) {
-    all(
-        &rt,
-        rt.alloc(),
-        A_FILE_THAT_IS_THERE_IS_ATTACHED_IN_EACH_MODE,
-    );
-}
-
 const A_FILE_THAT_IS_MISSING_IS_MADE_OR_REFUSED: &str =
     "none | attach@PTR:other:any=0 file@PTR=0 | other=
 none | attach@PTR:other:new=0 file@PTR=0 | other=
 none | attach@PTR:other:there=NoFile file@PTR=none | other=none
 none | attach@PTR:other:read=NoFile file@PTR=none | other=none";
 
-#[test]
-fn a_file_that_is_missing_is_made_or_refused(rt: HostRuntime) {
-    all(&rt, rt.alloc(), A_FILE_THAT_IS_MISSING_IS_MADE_OR_REFUSED);
-}
-
 const AN_ATTACHED_UNIT_IS_REFUSED_BEFORE_ITS_MODE: &str =
     "none | attach@PTP:tape:read=ReadOnly attach@PTP:tape:any=5 attach@PTP:none:read=AlreadyAttached attach@LPT:none:read=ReadOnly";
 
-#[test]
-fn an_attached_unit_is_refused_before_its_mode(rt: HostRuntime) {
-    all(&rt, rt.alloc(), AN_ATTACHED_UNIT_IS_REFUSED_BEFORE_ITS_MODE);
-}
-
 const A_FILE_IS_ATTACHED_UNDER_ITS_NAME: &str =
     "none | attach@PTR:tape:any=5 name@PTR=tape name@PTP=none file@PTP=none read_only@PTP=no";
-
-#[test]
-fn a_file_is_attached_under_its_name(rt: HostRuntime) {
-    all(&rt, rt.alloc(), A_FILE_IS_ATTACHED_UNDER_ITS_NAME);
-}
 
 const A_FAILED_OPENING_IS_SAID_OF_THE_UNIT: &str =
     "0:0 | attach@PTR:tape:any=Opening:none:0 openings=1 file@PTR=none | other=none
 0:0 | attach@PTR:other:any=Opening:none:0 openings=1 file@PTR=none | other=none
 1:0 | attach@PTR:other:any=Opening:none:0 openings=1 file@PTR=none | other=none";
 
-#[test]
-fn a_failed_opening_is_said_of_the_unit(rt: HostRuntime) {
-    all(&rt, rt.alloc(), A_FAILED_OPENING_IS_SAID_OF_THE_UNIT);
-}
-
 const A_FILE_WHOSE_LENGTH_IS_NOT_GIVEN_IS_CLOSED_AGAIN: &str =
     "1:0 | attach@PTR:tape:new=Length:0:0 faults@0=1 | tape=
 1:0 | attach@PTR:tape:new=Length:0:0 faults@0=1 attach@PTR:tape:any=0 file@PTR=1";
 
-#[test]
-fn a_file_whose_length_is_not_given_is_closed_again(rt: HostRuntime) {
-    all(
-        &rt,
-        rt.alloc(),
-        A_FILE_WHOSE_LENGTH_IS_NOT_GIVEN_IS_CLOSED_AGAIN,
-    );
-}
-
 const A_CLOSING_THAT_FAILS_ON_A_REFUSAL_IS_NOT_TOLD: &str =
     "1:0 2:0 | attach@PTR:tape:any=Length:0:0 faults@0=2";
-
-#[test]
-fn a_closing_that_fails_on_a_refusal_is_not_told(rt: HostRuntime) {
-    all(
-        &rt,
-        rt.alloc(),
-        A_CLOSING_THAT_FAILS_ON_A_REFUSAL_IS_NOT_TOLD,
-    );
-}
 
 const A_DETACHED_UNIT_CAN_HAVE_ANOTHER_FILE: &str =
     "none | detach@PTR=NotAttached attach@PTR:tape:any=5 detach@PTR=ok file@PTR=none attach@PTR:other:new=0 file@PTR=1";
 
-#[test]
-fn a_detached_unit_can_have_another_file(rt: HostRuntime) {
-    all(&rt, rt.alloc(), A_DETACHED_UNIT_CAN_HAVE_ANOTHER_FILE);
-}
-
 const A_FAILED_CLOSING_DETACHES: &str =
     "2:0 | attach@PTR:tape:any=5 detach@PTR=Closing:0:0 faults@0=1 detach@PTR=NotAttached";
-
-#[test]
-fn a_failed_closing_detaches(rt: HostRuntime) {
-    all(&rt, rt.alloc(), A_FAILED_CLOSING_DETACHES);
-}
 
 const UNITS_HAVE_THEIR_FILES_APART: &str =
     "none | attach@PTR:tape:read=5 attach@PTP:tape:any=5 attach@LPT:list:any=0 detach@PTP=ok file@PTR=0 read_only@PTR=yes file@PTP=none file@LPT=2";
 
-#[test]
-fn units_have_their_files_apart(rt: HostRuntime) {
-    all(&rt, rt.alloc(), UNITS_HAVE_THEIR_FILES_APART);
-}
-
 const BYTES_ARE_READ_UP_TO_THE_END: &str =
     "none | read@PTR:0=no_file attach@PTR:tape:read=5 read@PTR:0=h read@PTR:4=o read@PTR:5=end read@PTR:6=end read@PTR:16777216=end read@PTP:0=no_file";
-
-#[test]
-fn bytes_are_read_up_to_the_end(rt: HostRuntime) {
-    all(&rt, rt.alloc(), BYTES_ARE_READ_UP_TO_THE_END);
-}
 
 const A_FAILED_READ_IS_SAID_OF_THE_UNIT_AND_ITS_FILE: &str =
     "2:0 | attach@PTR:tape:any=5 read@PTR:0=Read:0:0 read@PTR:0=h";
 
-#[test]
-fn a_failed_read_is_said_of_the_unit_and_its_file(rt: HostRuntime) {
-    all(
-        &rt,
-        rt.alloc(),
-        A_FAILED_READ_IS_SAID_OF_THE_UNIT_AND_ITS_FILE,
-    );
-}
-
 const BYTES_ARE_WRITTEN_BEHIND_A_GAP_OF_ZERO_BYTES: &str =
     "none | write@PTP:0:a=no_file attach@PTP:tape:any=5 write@PTP:1:a=written write@PTP:7:!=written write@PTP:16777216:?=end | tape=hallo..!";
-
-#[test]
-fn bytes_are_written_behind_a_gap_of_zero_bytes(rt: HostRuntime) {
-    all(
-        &rt,
-        rt.alloc(),
-        BYTES_ARE_WRITTEN_BEHIND_A_GAP_OF_ZERO_BYTES,
-    );
-}
 
 const A_FAILED_WRITE_SAYS_WHETHER_ITS_BYTE_WAS_WRITTEN: &str =
     "2:0 | attach@PTP:tape:any=5 write@PTP:1:a=Write:0:0 | tape=hello
 2:1 | attach@PTP:tape:any=5 write@PTP:1:a=Write:0:1 | tape=hallo";
 
-#[test]
-fn a_failed_write_says_whether_its_byte_was_written(rt: HostRuntime) {
-    all(
-        &rt,
-        rt.alloc(),
-        A_FAILED_WRITE_SAYS_WHETHER_ITS_BYTE_WAS_WRITTEN,
-    );
-}
-
 const WHAT_ONE_UNIT_WRITES_ANOTHER_READS: &str =
     "none | attach@PTR:tape:read=5 attach@PTP:tape:any=5 write@PTP:5:!=written read@PTR:5=! | tape=hello!";
-
-#[test]
-fn what_one_unit_writes_another_reads(rt: HostRuntime) {
-    all(&rt, rt.alloc(), WHAT_ONE_UNIT_WRITES_ANOTHER_READS);
-}
 
 const A_FILE_IS_DIGESTED_AS_IT_STANDS_THERE: &str =
     "none | digest@PTR=NotAttached attach@PTR:tape:read=5 digest@PTR=5:2cf24dba5fb0a30e26e83b2ac5b9e29e1b161e5c1fa7425e73043362938b9824 read@PTR:0=h | tape=hello
 none | attach@PTP:tape:any=5 write@PTP:1:a=written digest@PTP=5:d3751d33f9cd5049c4af2b462735457e4d3baf130bcbb87f389e349fbaeb20b9 | tape=hallo
 none | attach@LPT:other:any=0 digest@LPT=0:e3b0c44298fc1c149afbf4c8996fb92427ae41e4649b934ca495991b7852b855 detach@LPT=ok | other=";
-
-#[test]
-fn a_file_is_digested_as_it_stands_there(rt: HostRuntime) {
-    all(&rt, rt.alloc(), A_FILE_IS_DIGESTED_AS_IT_STANDS_THERE);
-}
 
 // The opening and the length come first. Of a file without bytes nothing is read.
 const A_FAILED_CALL_OF_A_DIGEST_IS_SAID_OF_THE_UNIT: &str =
@@ -427,7 +323,47 @@ const A_FAILED_CALL_OF_A_DIGEST_IS_SAID_OF_THE_UNIT: &str =
 3:0 | attach@PTR:tape:new=0 digest@PTR=0:e3b0c44298fc1c149afbf4c8996fb92427ae41e4649b934ca495991b7852b855 faults@0=0 digest@PTR=Length:0:0";
 
 #[test]
-fn a_failed_call_of_a_digest_is_said_of_the_unit(rt: HostRuntime) {
+fn units_have_their_files(rt: HostRuntime) {
+    all(
+        &rt,
+        rt.alloc(),
+        A_FILE_THAT_IS_THERE_IS_ATTACHED_IN_EACH_MODE,
+    );
+    all(&rt, rt.alloc(), A_FILE_THAT_IS_MISSING_IS_MADE_OR_REFUSED);
+    all(&rt, rt.alloc(), AN_ATTACHED_UNIT_IS_REFUSED_BEFORE_ITS_MODE);
+    all(&rt, rt.alloc(), A_FILE_IS_ATTACHED_UNDER_ITS_NAME);
+    all(&rt, rt.alloc(), A_FAILED_OPENING_IS_SAID_OF_THE_UNIT);
+    all(
+        &rt,
+        rt.alloc(),
+        A_FILE_WHOSE_LENGTH_IS_NOT_GIVEN_IS_CLOSED_AGAIN,
+    );
+    all(
+        &rt,
+        rt.alloc(),
+        A_CLOSING_THAT_FAILS_ON_A_REFUSAL_IS_NOT_TOLD,
+    );
+    all(&rt, rt.alloc(), A_DETACHED_UNIT_CAN_HAVE_ANOTHER_FILE);
+    all(&rt, rt.alloc(), A_FAILED_CLOSING_DETACHES);
+    all(&rt, rt.alloc(), UNITS_HAVE_THEIR_FILES_APART);
+    all(&rt, rt.alloc(), BYTES_ARE_READ_UP_TO_THE_END);
+    all(
+        &rt,
+        rt.alloc(),
+        A_FAILED_READ_IS_SAID_OF_THE_UNIT_AND_ITS_FILE,
+    );
+    all(
+        &rt,
+        rt.alloc(),
+        BYTES_ARE_WRITTEN_BEHIND_A_GAP_OF_ZERO_BYTES,
+    );
+    all(
+        &rt,
+        rt.alloc(),
+        A_FAILED_WRITE_SAYS_WHETHER_ITS_BYTE_WAS_WRITTEN,
+    );
+    all(&rt, rt.alloc(), WHAT_ONE_UNIT_WRITES_ANOTHER_READS);
+    all(&rt, rt.alloc(), A_FILE_IS_DIGESTED_AS_IT_STANDS_THERE);
     all(
         &rt,
         rt.alloc(),

@@ -154,27 +154,19 @@ const A_FILE_IS_READ_WHOLE: &str = "none | script =hello none none | 0 0
 none | empty = none none | 0 0
 none | missing NoFile none none | 0 0";
 
-#[test]
-fn a_file_is_read_whole(rt: HostRuntime) {
-    all_read(&rt, rt.alloc(), A_FILE_IS_READ_WHOLE);
-}
-
 const EACH_FAILING_CALL_IS_TOLD: &str = "0:0 | script Failed Opening none | 1 0
 1:0 | script Failed Length none | 0 1
 2:0 | script Failed Read none | 0 1
 3:0 | script =hello none Closing | 0 1";
-
-#[test]
-fn each_failing_call_is_told(rt: HostRuntime) {
-    all_read(&rt, rt.alloc(), EACH_FAILING_CALL_IS_TOLD);
-}
 
 const A_CLOSING_THAT_FAILS_BEHIND_A_REFUSAL_IS_TOLD_TOO: &str =
     "1:0 2:0 | script Failed Length Closing | 0 2
 2:0 3:0 | script Failed Read Closing | 0 2";
 
 #[test]
-fn a_closing_that_fails_behind_a_refusal_is_told_too(rt: HostRuntime) {
+fn files_are_read_whole(rt: HostRuntime) {
+    all_read(&rt, rt.alloc(), A_FILE_IS_READ_WHOLE);
+    all_read(&rt, rt.alloc(), EACH_FAILING_CALL_IS_TOLD);
     all_read(
         &rt,
         rt.alloc(),
@@ -251,17 +243,13 @@ const A_FILE_IS_MADE_OR_EMPTIED_AND_WRITTEN: &str = "none | old =hello ok none 0
 none | new =hello ok none 0 none | 0 0 | hello
 none | old = ok none 0 none | 0 0 |";
 
-#[test]
-fn a_file_is_made_or_emptied_and_written(rt: HostRuntime) {
-    all_written(&rt, rt.alloc(), A_FILE_IS_MADE_OR_EMPTIED_AND_WRITTEN);
-}
-
 const EACH_FAILING_CALL_OF_A_WRITING_IS_TOLD: &str =
     "0:4 | old =hello Failed Opening 0 none | 1 0 | 0123456789
 1:4 | old =hello Failed Write 4 none | 0 1 | hell
 2:4 | old =hello ok none 0 Closing | 0 1 | hello";
 
 #[test]
-fn each_failing_call_of_a_writing_is_told(rt: HostRuntime) {
+fn files_are_written_whole(rt: HostRuntime) {
+    all_written(&rt, rt.alloc(), A_FILE_IS_MADE_OR_EMPTIED_AND_WRITTEN);
     all_written(&rt, rt.alloc(), EACH_FAILING_CALL_OF_A_WRITING_IS_TOLD);
 }

@@ -54,7 +54,7 @@ pub record KeepsCopy (s : Seen) (p : Part) : Type 0 where
   pub alone : DiskHasOwnFile s → LeavesDiskFile s p.after
 
 -- one state has the shape of another: units of the same kinds, the same attachments, and as many lines; beside what is seen of
--- the lines, a machine has none of its own, and no marks of the disk's pages
+-- the lines, a machine has none of its own, and nothing is kept beside the disk's copy
 pub record StaysAs (s t : Seen) : Type 0 where
   pub kinds : kinds_of t.machine.units ≡ kinds_of s.machine.units
   pub slots : t.machine.slots ≡ s.machine.slots

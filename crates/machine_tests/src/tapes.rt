@@ -23,33 +23,11 @@ with: AC0=0 AC2=0 | files: tape=\x02\0\0\u{80}ab\x02\0\0\u{80} other=\x02\0\0\0x
 with: AC0=0 AC2=5 | files: tape=\0\0\0\0\x04\0\0\0abcd\x04\0\0\0 other=\x02\0\0\0xy\x02\0\0\0 | attach: MTA0:tape:read=16 MTA3:other:any=10 | shows: AC0=401 MTA.BUSY=0 MTA.DONE=1 MTA.MA=200 MTA.WC=5 MTA.STAT=401 MTA.POS0=4. MTA.POS3=0 [200]=40502 [201]=177600 [202]=1
 with: AC0=0 AC2=5 MTA.POS0=16. | files: tape=\0\0\0\0\x04\0\0\0abcd\x04\0\0\0 other=\x02\0\0\0xy\x02\0\0\0 | attach: MTA0:tape:read=16 MTA3:other:any=10 | shows: AC0=101001 MTA.BUSY=0 MTA.DONE=1 MTA.MA=200 MTA.WC=5 MTA.STAT=101001 MTA.POS0=16. MTA.POS3=0 [200]=40502 [201]=177600 [202]=1";
 
-#[test]
-fn a_block_is_read_high_byte_first(rt: HostRuntime) -> Result<(), Fail> {
-    all(
-        &rt,
-        rt.alloc(),
-        Units::Tape,
-        BASE,
-        A_BLOCK_IS_READ_HIGH_BYTE_FIRST,
-    )
-}
-
 const A_BLOCK_IS_WRITTEN_AND_ENDS_THE_IMAGE: &str =
     "with: AC0=50 AC2=7776 MTA.POS0=4. | files: tape=\0\0\0\0\x02\0\0\0xy\x02\0\0\0\0\0\0\0 other=\x02\0\0\0xy\x02\0\0\0 | attach: MTA0:tape:any=18 MTA3:other:any=10 | shows: AC0=1 MTA.BUSY=0 MTA.DONE=1 MTA.MA=202 MTA.WC=0 MTA.STAT=1 MTA.POS0=16. MTA.POS3=0 [200]=40502 [201]=177600 [202]=1 | left: tape=\0\0\0\0\x04\0\0\0AB\u{ff}\u{80}\x04\0\0\0
 with: AC0=50 AC2=7777 MTA.POS0=20. | files: tape=\0\0\0\0\x02\0\0\0xy\x02\0\0\0\0\0\0\0 other=\x02\0\0\0xy\x02\0\0\0 | attach: MTA0:tape:any=18 MTA3:other:any=10 | shows: AC0=1 MTA.BUSY=0 MTA.DONE=1 MTA.MA=201 MTA.WC=0 MTA.STAT=1 MTA.POS0=30. MTA.POS3=0 [200]=40502 [201]=177600 [202]=1 | left: tape=\0\0\0\0\x02\0\0\0xy\x02\0\0\0\0\0\0\0\0\0\x02\0\0\0AB\x02\0\0\0
 with: AC0=60 AC2=5 MTA.POS0=4. | files: tape=\0\0\0\0\x02\0\0\0xy\x02\0\0\0\0\0\0\0 other=\x02\0\0\0xy\x02\0\0\0 | attach: MTA0:tape:any=18 MTA3:other:any=10 | shows: AC0=401 MTA.BUSY=0 MTA.DONE=1 MTA.MA=200 MTA.WC=5 MTA.STAT=401 MTA.POS0=8. MTA.POS3=0 [200]=40502 [201]=177600 [202]=1 | left: tape=\0\0\0\0\0\0\0\0
 with: AC0=70 AC2=5 MTA.POS0=4. | files: tape=\0\0\0\0\x02\0\0\0xy\x02\0\0\0\0\0\0\0 other=\x02\0\0\0xy\x02\0\0\0 | attach: MTA0:tape:any=18 MTA3:other:any=10 | shows: AC0=1 MTA.BUSY=0 MTA.DONE=1 MTA.MA=200 MTA.WC=5 MTA.STAT=1 MTA.POS0=4. MTA.POS3=0 [200]=40502 [201]=177600 [202]=1 | left: tape=\0\0\0\0";
-
-#[test]
-fn a_block_is_written_and_ends_the_image(rt: HostRuntime) -> Result<(), Fail> {
-    all(
-        &rt,
-        rt.alloc(),
-        Units::Tape,
-        BASE,
-        A_BLOCK_IS_WRITTEN_AND_ENDS_THE_IMAGE,
-    )
-}
 
 const BLOCKS_ARE_PASSED_IN_BOTH_DIRECTIONS: &str =
     "; blocks up to 10 and to 20, a mark up to 24, and a block up to 34
@@ -60,17 +38,6 @@ with: AC0=40 AC2=7775 MTA.POS0=34. | files: tape=\x01\0\0\0a\x7f\x01\0\0\0\x02\0
 with: AC0=40 AC2=7775 MTA.POS0=20. | files: tape=\x01\0\0\0a\x7f\x01\0\0\0\x02\0\0\0bc\x02\0\0\0\0\0\0\0\x02\0\0\0de\x02\0\0\0 other=\x02\0\0\0xy\x02\0\0\0 | attach: MTA0:tape:read=34 MTA3:other:any=10 | shows: AC0=201 MTA.BUSY=0 MTA.DONE=1 MTA.MA=200 MTA.WC=7777 MTA.STAT=201 MTA.POS0=0 MTA.POS3=0 [200]=40502 [201]=177600 [202]=1
 with: AC0=40 AC2=7777 MTA.POS0=40. | files: tape=\x01\0\0\0a\x7f\x01\0\0\0\x02\0\0\0bc\x02\0\0\0\0\0\0\0\x02\0\0\0de\x02\0\0\0 other=\x02\0\0\0xy\x02\0\0\0 | attach: MTA0:tape:read=34 MTA3:other:any=10 | shows: AC0=1 MTA.BUSY=0 MTA.DONE=1 MTA.MA=200 MTA.WC=0 MTA.STAT=1 MTA.POS0=24. MTA.POS3=0 [200]=40502 [201]=177600 [202]=1";
 
-#[test]
-fn blocks_are_passed_in_both_directions(rt: HostRuntime) -> Result<(), Fail> {
-    all(
-        &rt,
-        rt.alloc(),
-        Units::Tape,
-        BASE,
-        BLOCKS_ARE_PASSED_IN_BOTH_DIRECTIONS,
-    )
-}
-
 const A_REFUSED_COMMAND_AND_A_REWIND_MAKE_NO_CALL: &str = "; any call would fail
 with: AC0=60 AC2=7776 MTA.STOP_IOE=1 MTA.POS0=4. | fails: 4:0 | shows: AC0=120001 MTA.BUSY=0 MTA.DONE=1 MTA.MA=200 MTA.WC=7776 MTA.STAT=120001 MTA.POS0=4. MTA.POS3=0 [200]=40502 [201]=177600 [202]=1
 with: AC0=1 AC2=7776 MTA.STOP_IOE=1 MTA.POS0=4. | fails: 4:0 | do: run=9999:UnitNone.MTA1 | time: 1003 | shows: AC0=1 MTA.BUSY=0 MTA.DONE=1 MTA.MA=200 MTA.WC=7776 MTA.STAT=120000 MTA.POS0=4. MTA.POS3=0 [200]=40502 [201]=177600 [202]=1
@@ -79,17 +46,6 @@ with: AC0=10 AC2=7776 MTA.STOP_IOE=1 MTA.POS0=4. | fails: 4:0 | shows: AC0=201 M
 ; a block and a mark that would pass 64 MiB
 with: AC0=50 AC2=7776 MTA.STOP_IOE=1 MTA.POS0=67108853. | attach: MTA0:tape:any=12 MTA3:other:any=10 | fails: 4:0 | do: run=9999:UnitEnd.MTA0 | time: 1003 | shows: AC0=50 MTA.BUSY=0 MTA.DONE=1 MTA.MA=200 MTA.WC=7776 MTA.STAT=101001 MTA.POS0=67108853. MTA.POS3=0 [200]=40502 [201]=177600 [202]=1
 with: AC0=60 AC2=7776 MTA.STOP_IOE=1 MTA.POS0=67108861. | attach: MTA0:tape:any=12 MTA3:other:any=10 | fails: 4:0 | do: run=9999:UnitEnd.MTA0 | time: 1003 | shows: AC0=60 MTA.BUSY=0 MTA.DONE=1 MTA.MA=200 MTA.WC=7776 MTA.STAT=101001 MTA.POS0=67108861. MTA.POS3=0 [200]=40502 [201]=177600 [202]=1";
-
-#[test]
-fn a_refused_command_and_a_rewind_make_no_call(rt: HostRuntime) -> Result<(), Fail> {
-    all(
-        &rt,
-        rt.alloc(),
-        Units::Tape,
-        BASE,
-        A_REFUSED_COMMAND_AND_A_REWIND_MAKE_NO_CALL,
-    )
-}
 
 const A_FAILED_CALL_AND_A_BAD_IMAGE_LEAVE_THE_TAPE_AT_WORK: &str =
     "; a block, and a word that is cut
@@ -102,17 +58,6 @@ with: AC0=0 AC2=7776 MTA.STOP_IOE=1 MTA.POS0=4. | files: tape=\x03\0\0\0abc\x7f\
 with: AC0=30 AC2=7776 MTA.STOP_IOE=1 | files: tape=\x03\0\0\0abc\x7f\x03\0\0\0\x02 other=\x02\0\0\0xy\x02\0\0\0 | attach: MTA0:tape:any=13 MTA3:other:any=10 | do: run=9999:BadImage.MTA0.12 | time: 1003 | shows: AC0=30 MTA.BUSY=1 MTA.DONE=0 MTA.MA=200 MTA.WC=7776 MTA.STAT=0 MTA.POS0=0 MTA.POS3=0 [200]=40502 [201]=177600 [202]=1
 with: AC0=40 AC2=7776 MTA.STOP_IOE=1 MTA.POS0=13. | files: tape=\x03\0\0\0abc\x7f\x03\0\0\0\x02 other=\x02\0\0\0xy\x02\0\0\0 | attach: MTA0:tape:any=13 MTA3:other:any=10 | do: run=9999:BadImage.MTA0.9 | time: 1003 | shows: AC0=40 MTA.BUSY=1 MTA.DONE=0 MTA.MA=200 MTA.WC=7776 MTA.STAT=0 MTA.POS0=13. MTA.POS3=0 [200]=40502 [201]=177600 [202]=1";
 
-#[test]
-fn a_failed_call_and_a_bad_image_leave_the_tape_at_work(rt: HostRuntime) -> Result<(), Fail> {
-    all(
-        &rt,
-        rt.alloc(),
-        Units::Tape,
-        BASE,
-        A_FAILED_CALL_AND_A_BAD_IMAGE_LEAVE_THE_TAPE_AT_WORK,
-    )
-}
-
 const A_DRIVE_HAS_ITS_OWN_FILE_AND_PLACE: &str =
     "with: AC0=3 AC2=7776 MTA.POS0=12. | shows: AC0=1 MTA.BUSY=0 MTA.DONE=1 MTA.MA=201 MTA.WC=7777 MTA.STAT=1 MTA.POS0=12. MTA.POS3=10. [200]=74171 [201]=177600 [202]=1
 with: AC0=53 AC2=7776 MTA.STOP_IOE=1 MTA.POS0=12. | shows: AC0=1 MTA.BUSY=0 MTA.DONE=1 MTA.MA=202 MTA.WC=0 MTA.STAT=1 MTA.POS0=12. MTA.POS3=12. [200]=40502 [201]=177600 [202]=1 | left: other=\x04\0\0\0AB\u{ff}\u{80}\x04\0\0\0
@@ -120,12 +65,48 @@ with: AC0=3 AC2=7776 MTA.STOP_IOE=1 MTA.POS0=12. | fails: 4:0 | do: run=9999:Fil
 with: AC0=3 AC2=7776 MTA.STOP_IOE=1 MTA.POS0=12. MTA.POS3=4. | do: run=9999:BadImage.MTA3.4 | time: 1003 | shows: AC0=3 MTA.BUSY=1 MTA.DONE=0 MTA.MA=200 MTA.WC=7776 MTA.STAT=0 MTA.POS0=12. MTA.POS3=4. [200]=40502 [201]=177600 [202]=1";
 
 #[test]
-fn a_drive_has_its_own_file_and_place(rt: HostRuntime) -> Result<(), Fail> {
+fn tapes_are_read_and_written(rt: HostRuntime) -> Result<(), Fail> {
+    all(
+        &rt,
+        rt.alloc(),
+        Units::Tape,
+        BASE,
+        A_BLOCK_IS_READ_HIGH_BYTE_FIRST,
+    )?;
+    all(
+        &rt,
+        rt.alloc(),
+        Units::Tape,
+        BASE,
+        A_BLOCK_IS_WRITTEN_AND_ENDS_THE_IMAGE,
+    )?;
+    all(
+        &rt,
+        rt.alloc(),
+        Units::Tape,
+        BASE,
+        BLOCKS_ARE_PASSED_IN_BOTH_DIRECTIONS,
+    )?;
+    all(
+        &rt,
+        rt.alloc(),
+        Units::Tape,
+        BASE,
+        A_REFUSED_COMMAND_AND_A_REWIND_MAKE_NO_CALL,
+    )?;
+    all(
+        &rt,
+        rt.alloc(),
+        Units::Tape,
+        BASE,
+        A_FAILED_CALL_AND_A_BAD_IMAGE_LEAVE_THE_TAPE_AT_WORK,
+    )?;
     all(
         &rt,
         rt.alloc(),
         Units::Tape,
         BASE,
         A_DRIVE_HAS_ITS_OWN_FILE_AND_PLACE,
-    )
+    )?;
+    Ok(())
 }

@@ -14,32 +14,10 @@ words: 101400 100 | breaks: 101:0 100:3 77777:1 | do: run=9999:Break.1 PC?101 AC
 words: 61111 63611 777 63077 | put: AC0=101 | breaks: 102:3 103:1 | do: run=9999:Break.0 PC?102 AC0?101 time?6 run=9999:Break.0 PC?102 AC0?101 time?8 | counts: 0 1
 words: 61111 63611 777 63077 | put: AC0=101 | breaks: 103:1 | do: run=9999:Break.0 PC?103 AC0?101 time?102 run=9999:Halt PC?104 AC0?101 time?103 | counts: 0 | prints: A";
 
-#[test]
-fn a_break_stops_at_its_count_and_each_time_behind_it(rt: HostRuntime) -> Result<(), Fail> {
-    all(
-        &rt,
-        rt.alloc(),
-        Units::Console,
-        BASE,
-        A_BREAK_STOPS_AT_ITS_COUNT_AND_EACH_TIME_BEHIND_IT,
-    )
-}
-
 const A_RUN_STOPS_BEHIND_A_TEXT: &str = "; O, O and K
 words: 61111 63611 777 61111 63611 777 65111 63611 777 63077 | put: AC0=117 AC1=113 | expects: 1:OK | do: run=9999:Expect.0 PC?110 AC0?117 time?304 run=9999:Halt PC?112 AC0?117 time?307 | prints: OOK
 ; the first in the list matches, and no text matches across a match
 words: 61111 63611 777 100 | put: AC0=117 | expects: 5:OOOO 2:OO 1:O\0 | do: run=9999:Expect.1 PC?102 AC0?117 time?409 | prints: OOOO | matches: 5 1";
-
-#[test]
-fn a_run_stops_behind_a_text(rt: HostRuntime) -> Result<(), Fail> {
-    all(
-        &rt,
-        rt.alloc(),
-        Units::Console,
-        BASE,
-        A_RUN_STOPS_BEHIND_A_TEXT,
-    )
-}
 
 const SENT_BYTES_COME_BEFORE_TYPED_ONES: &str =
     "words: 60110 63610 777 60410 63077 | sends: 0:1000:Y | do: run=9999:Halt PC?105 AC0?131 time?104
@@ -48,17 +26,6 @@ words: 60110 63610 777 60410 63077 | sends: 100:50:YZ | keys: 0 \"k\"~ | do: run
 words: 60110 63610 777 60410 63077 | sends: 101:50:YZ | keys: 0 \"k\"~ | do: run=9999:Halt PC?105 AC0?153 time?104 | waiting: 2
 ; control E stops
 words: 60110 63610 777 60410 63077 | sends: 0:1:\x05Z | do: run=9999:Wru PC?102 AC0?0 time?100 run=9999:Halt PC?105 AC0?132 time?204";
-
-#[test]
-fn sent_bytes_come_before_typed_ones(rt: HostRuntime) -> Result<(), Fail> {
-    all(
-        &rt,
-        rt.alloc(),
-        Units::Console,
-        BASE,
-        SENT_BYTES_COME_BEFORE_TYPED_ONES,
-    )
-}
 
 const KEYS_COME_AT_THEIR_TIMES_AND_CONTROL_E_STOPS: &str =
     "; the keyboard looks every 100 instructions
@@ -70,12 +37,34 @@ words: 400 | keys: 50 \"a\"~150 \"b\"~250 \"\\005\"~ | do: step=300:Stepped | sh
 words: 400 | keys: 50 \"a\"~150 \"b\"~250 \"\\005\"~ | do: step=999:Wru | shows: PC=100 TTI.DONE=1 TTI.BUF=142 | time: 300 | taken: 3";
 
 #[test]
-fn keys_come_at_their_times_and_control_e_stops(rt: HostRuntime) -> Result<(), Fail> {
+fn what_is_watched_stops_a_run(rt: HostRuntime) -> Result<(), Fail> {
+    all(
+        &rt,
+        rt.alloc(),
+        Units::Console,
+        BASE,
+        A_BREAK_STOPS_AT_ITS_COUNT_AND_EACH_TIME_BEHIND_IT,
+    )?;
+    all(
+        &rt,
+        rt.alloc(),
+        Units::Console,
+        BASE,
+        A_RUN_STOPS_BEHIND_A_TEXT,
+    )?;
+    all(
+        &rt,
+        rt.alloc(),
+        Units::Console,
+        BASE,
+        SENT_BYTES_COME_BEFORE_TYPED_ONES,
+    )?;
     all(
         &rt,
         rt.alloc(),
         Units::Console,
         BASE,
         KEYS_COME_AT_THEIR_TIMES_AND_CONTROL_E_STOPS,
-    )
+    )?;
+    Ok(())
 }

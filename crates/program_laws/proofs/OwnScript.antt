@@ -7,6 +7,7 @@ use Rattle.expect_actions.specs.Watch.{WatchState}
 use Rattle.scp_parser.specs.Command.{Request}
 use Rattle.command_session.specs.declared.next.Next.TheVariants.{Go, Ran, Do, Goto, Exit}
 use Rattle.command_session.specs.Live.{Standing}
+use Rattle.command_session.specs.DiskFile.{disk_alone}
 use Rattle.command_session.specs.Nature.{nature}
 use Rattle.command_session.specs.Reply.{Answer}
 use Rattle.command_session.specs.Asked.{Asked, asked}
@@ -91,19 +92,19 @@ left_behind b script what answer after = record b {
   texts = texts_behind (texts_of [] (script ∷ [])) what answer after.live.watch;
 }
 
-answer-goes : (b t : Session) (script : Script) (what : Asked) (answer : Answer) (after : Standing) → b.reads ≡ false → IsPlain answer after.live.watch
-    → following (settled_answer (script ∷ []) what answer) (left_behind b script what (settled_answer (script ∷ []) what answer) after) ≡ Going t
+answer-goes : (b t : Session) (script : Script) (what : Asked) (answer : Answer) (alone : Bool) (after : Standing) → b.reads ≡ false → IsPlain answer after.live.watch
+    → following (settled_answer (script ∷ []) what answer) alone (left_behind b script what (settled_answer (script ∷ []) what answer) after) ≡ Going t
     → HasScripts (script ∷ []) t ⊎ HasScripts [] t
-answer-goes b t script what (Ok Go) after unread plain goes =
-    inl (subst (HasScripts (script ∷ [])) (following-is (Ok Go) (left_behind b script what (Ok Go) after) t goes) (record { unread = unread; actions = refl; scripts = refl }))
-answer-goes b t script what (Ok (Ran stop)) after unread plain goes =
-    inl (subst (HasScripts (script ∷ [])) (following-is (Ok (Ran stop)) (left_behind b script what (Ok (Ran stop)) after) t goes)
+answer-goes b t script what (Ok Go) alone after unread plain goes =
+    inl (subst (HasScripts (script ∷ [])) (following-is (Ok Go) alone (left_behind b script what (Ok Go) after) t goes) (record { unread = unread; actions = refl; scripts = refl }))
+answer-goes b t script what (Ok (Ran stop)) alone after unread plain goes =
+    inl (subst (HasScripts (script ∷ [])) (following-is (Ok (Ran stop)) alone (left_behind b script what (Ok (Ran stop)) after) t goes)
     (record { unread = unread; actions = ap (λ (text : List ℕ). put_first text []) plain; scripts = refl }))
-answer-goes b t script what (Ok (Do file)) after unread plain goes = absurd plain
-answer-goes b t script what (Ok Goto) after unread plain goes = absurd plain
-answer-goes b t script what (Ok (Exit status)) after unread plain goes = absurd (cc)
-answer-goes b t script what (Err fault) after unread plain goes =
-    let same = following-is (Err fault) (left_behind b script what (Err fault) after) t goes in
+answer-goes b t script what (Ok (Do file)) alone after unread plain goes = absurd plain
+answer-goes b t script what (Ok Goto) alone after unread plain goes = absurd plain
+answer-goes b t script what (Ok (Exit status)) alone after unread plain goes = absurd (cc)
+answer-goes b t script what (Err fault) alone after unread plain goes =
+    let same = following-is (Err fault) alone (left_behind b script what (Err fault) after) t goes in
     let none = refusal-none (script ∷ []) (behind_failure (is_assertion fault) (script ∷ [])) in
     elim (failure-cases (is_assertion fault) script) [
       | inl stays ↦ inl (subst (HasScripts (script ∷ [])) same (record { unread = unread; actions = none; scripts = stays }))
@@ -123,7 +124,7 @@ text-goes s t made script r unread allowed plain goes =
     let notes = handed b.spent b.notes in
     let P : Asked → Type 0 = λ a. IsPlain (does b.limit notes b.live a).answer (does b.limit notes b.live a).after.live.watch in
     let reply = does b.limit notes b.live (checked here (Ok r)) in
-    answer-goes b t (past_line script) (Ok r) reply.answer reply.after unread (subst P (sym (allowed here)) (plain b.limit notes)) goes
+    answer-goes b t (past_line script) (Ok r) reply.answer (disk_alone b.live reply.after.live) reply.after unread (subst P (sym (allowed here)) (plain b.limit notes)) goes
 
 pub line-goes : (s t : Session) (script : Script) (r : Request) → HasScripts (script ∷ []) s → still_open (script ∷ []) ≡ script ∷ [] → asked (text_of_line script) ≡ Ok r → IsAllowed r → AnswersPlainly s r
     → (step s).next ≡ Going t → HasScripts (past_line script ∷ []) t ⊎ HasScripts [] t

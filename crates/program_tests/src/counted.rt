@@ -7,9 +7,9 @@ ghost use Rattle.unit_trait.specs.declared.kind.Kind.TheVariants.{Tti1 as second
 ghost use Rattle.unit_trait.specs.Row.{initial_unit};
 
 use crate::checked::holds;
-use crate::play::play;
+use crate::play::with_units;
 use crate::row::{Row, decimal, text};
-use crate::units::{Purpose, with_new_units};
+use standard_units::{boxed_units, in_bus_order};
 use std::alloc::{AllocError, Global};
 use std::cell::Cell;
 use std::process::Abort;
@@ -45,7 +45,7 @@ fn count(cell: &Cell<u64>) {
 
 /// The calls of a clock and those of a printer.
 #[derive(Drop)]
-pub struct Counters {
+struct Counters {
     clock: Rc<Calls>,
     printer: Rc<Calls>,
 }
@@ -121,7 +121,7 @@ impl<U: Unit> Unit for Counted<U> {
 /// Plays a row with a counted clock and a counted printer, whose calls are those of its fields `clock` and `printer`.
 fn counts(rt: &impl Abort, alloc: Global, row: Row<'_>) -> Result<(), AllocError> {
     let counters = new_counters(alloc)?;
-    with_new_units(rt, alloc, Purpose::Count(&counters), row)?;
+    play(rt, alloc, &counters, row)?;
     holds(
         rt,
         are_made(&counters.clock, text(row, "clock").unwrap_or("")),
@@ -135,8 +135,47 @@ fn counts(rt: &impl Abort, alloc: Global, row: Row<'_>) -> Result<(), AllocError
     Ok(())
 }
 
-/// Plays a row with these units, in bus order, of which the clock and the printer are counted.
-pub fn play_counted<U: Unit>(
+/// Plays a row with a new unit of each kind, of which the clock and the printer are counted.
+fn play(
+    rt: &impl Abort,
+    alloc: Global,
+    counters: &Counters,
+    row: Row<'_>,
+) -> Result<(), AllocError> {
+    let (
+        disk,
+        tape,
+        printer,
+        reader,
+        punch,
+        clock,
+        keyboard,
+        teleprinter,
+        keyboard_1,
+        teleprinter_1,
+    ) = boxed_units(alloc)?;
+    // The others become such boxes too, since they go into one list with it.
+    let disk: Box<dyn Unit> = disk;
+    play_counted(
+        rt,
+        alloc,
+        disk,
+        tape,
+        printer,
+        reader,
+        punch,
+        clock,
+        keyboard,
+        teleprinter,
+        keyboard_1,
+        teleprinter_1,
+        counters,
+        row,
+    )
+}
+
+/// Plays a row with these units, in bus order.
+fn play_counted<U: Unit>(
     rt: &impl Abort,
     alloc: Global,
     disk: U,
@@ -165,8 +204,7 @@ pub fn play_counted<U: Unit>(
 {
     let clock_calls = counters.clock.clone()?;
     let printer_calls = counters.printer.clone()?;
-    play(
-        rt,
+    let units = in_bus_order(
         alloc,
         Counted::new(disk, None),
         Counted::new(tape, None),
@@ -178,8 +216,8 @@ pub fn play_counted<U: Unit>(
         Counted::new(teleprinter, Some(printer_calls)),
         Counted::new(keyboard_1, None),
         Counted::new(teleprinter_1, None),
-        row,
-    )
+    )?;
+    with_units(rt, alloc, units, row)
 }
 
 /// Whether the calls were made as often as a text says: `io`, `due`, `got`, `set_reg` and `reset`.

@@ -18,20 +18,10 @@ fails=4
 ; an early end writes nothing back
 words=-q -m 12 | prints=~HALT instruction, PC: 00104 (000000)~~HALT instruction, PC: 00104 (000000)~ | status=104 | after=d:";
 
-#[test]
-fn the_disk_is_written_back_at_the_end_of_the_input(rt: HostRuntime) -> Result<(), Fail> {
-    all(&rt, rt.alloc(), WRITES, AT_THE_END)
-}
-
 const ATTACHING: &str =
     "fails=0 | prints=File error~~HALT instruction, PC: 00104 (000000)~~HALT instruction, PC: 00104 (000000)~MA:\t00200~ | note=1 0 Opening 0 | after=d
 fails=1 | prints=File error~~HALT instruction, PC: 00104 (000000)~~HALT instruction, PC: 00104 (000000)~MA:\t00200~ | note=1 0 Length 0 | after=d:
 before=d:abc | fails=2 | lines=ATTACH DSK d~SHOW DSK~ | prints=File error~DSK, not attached~ | note=1 0 Read 0 | after=d:abc";
-
-#[test]
-fn a_disk_whose_attaching_fails_moves_no_sector(rt: HostRuntime) -> Result<(), Fail> {
-    all(&rt, rt.alloc(), WRITES, ATTACHING)
-}
 
 const FLUSHES: &str =
     "fails=2 0 | more=DETACH DSK~SHOW DSK~EXIT 3~ | then=File error~DSK, attached to d~ | status=3 | note=14 406 Write 0
@@ -47,11 +37,6 @@ fails=2 1 | more=EXIT 4~SHOW DSK~EXIT 3~ | then=File error~DSK, attached to d~ |
 fails=2 512 | more=EXIT 4~SHOW DSK~EXIT 3~ | then=File error~DSK, attached to d~ | status=3 | note=14 406 Write 512
 fails=2 1024 | more=EXIT 4~SHOW DSK~EXIT 3~ | then=File error~DSK, attached to d~ | status=3 | note=14 406 Write 1024";
 
-#[test]
-fn a_failed_flush_refuses_detach_and_exit(rt: HostRuntime) -> Result<(), Fail> {
-    all(&rt, rt.alloc(), WRITES, FLUSHES)
-}
-
 /// A sector of one word over a file of eight bytes.
 const OVER: &str =
     "words=-q | before=d:abcdefgh | lines=ATTACH DSK d~D DSK MA 200~D 200 123456~D 100 60320~D 101 63620~D 102 777~D 103 63077~GO 100~ | prints=~HALT instruction, PC: 00104 (000000)~ | status=107";
@@ -61,6 +46,10 @@ fails=3 1 | note=8 203 Write 1 | after=d:.bcdefgh
 fails=3 4 | note=8 203 Write 4 | after=d:.\u{a7}\0\0efgh";
 
 #[test]
-fn a_failed_flush_leaves_the_rest_of_the_file(rt: HostRuntime) -> Result<(), Fail> {
-    all(&rt, rt.alloc(), OVER, PARTS)
+fn disks_are_kept_and_loaded(rt: HostRuntime) -> Result<(), Fail> {
+    all(&rt, rt.alloc(), WRITES, AT_THE_END)?;
+    all(&rt, rt.alloc(), WRITES, ATTACHING)?;
+    all(&rt, rt.alloc(), WRITES, FLUSHES)?;
+    all(&rt, rt.alloc(), OVER, PARTS)?;
+    Ok(())
 }

@@ -5,7 +5,7 @@ ghost use Rattle.command_words.specs.Standard.{IsStandard};
 use crate::callers::{lines_of, lines_stand};
 use crate::play::{files_of, files_stand, with_files};
 use crate::row::Row;
-use crate::standard_units::standard_units;
+use crate::units::standard_units;
 use host_files::{Files, MemFiles};
 use std::alloc::{AllocError, Global};
 use std::process::Abort;

@@ -2,8 +2,6 @@
 #![tactic(auto)]
 
 #[cfg(test)]
-mod boxes;
-#[cfg(test)]
 mod callers;
 #[cfg(test)]
 mod checked;
@@ -27,8 +25,6 @@ mod sessions;
 mod short_reads;
 #[cfg(test)]
 mod standard;
-#[cfg(test)]
-mod standard_units;
 #[cfg(test)]
 mod tapes;
 #[cfg(test)]

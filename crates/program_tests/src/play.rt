@@ -6,19 +6,13 @@
 // that there is no machine (`machine=none`), what the caller was sent behind the opening, where it was accepted
 // (`sent`), how many calls on lines have failed (`lost`), how many ports are still listened on (`ports`) and how often a
 // connection was hung up on, where it is not once for a caller that was accepted (`hangs`).
-ghost use Rattle.std.specs.Prelude.{◌≡◌, map};
-ghost use Rattle.unit_trait.specs.declared.kind.Kind.TheVariants.{Dsk as disks, Mta as tapes, Lpt as printers, Ptr as readers};
-ghost use Rattle.unit_trait.specs.declared.kind.Kind.TheVariants.{Ptp as punches, Clk as clocks, Tti as keyboards};
-ghost use Rattle.unit_trait.specs.declared.kind.Kind.TheVariants.{Tto as teleprinters};
-ghost use Rattle.unit_trait.specs.declared.kind.Kind.TheVariants.{Tti1 as second_keyboards, Tto1 as second_printers};
-ghost use Rattle.unit_trait.specs.Row.{initial_unit};
+ghost use Rattle.std.specs.Prelude.{map};
 ghost use Rattle.command_words.specs.Standard.{IsStandard};
 
-use crate::boxes::{push_four, push_two};
 use crate::callers::{lines_of, lines_stand};
 use crate::checked::holds;
 use crate::row::{Row, add, bytes, decimal, number, text};
-use crate::units::{Purpose, with_new_units};
+use crate::units::standard_units;
 use file_commands::{FaultNote, Subject};
 use host_files::{ByteSink, ByteSource, FileCall, Files, MemFiles, Sink, Source, next_byte};
 use host_lines::Lines;
@@ -34,47 +28,19 @@ use unit_trait::{Kind, Unit, UnitName};
 pub fn all(rt: &impl Abort, alloc: Global, base: &str, table: &str) -> Result<(), Fail> {
     for line in table.lines() {
         if !line.starts_with(';') {
-            with_new_units(rt, alloc, Purpose::Play, Row { base, line })?;
+            play(rt, alloc, Row { base, line })?;
         }
     }
     Ok(())
 }
 
-/// Plays a row with these units, in bus order.
-pub fn play<U: Unit>(
-    rt: &impl Abort,
-    alloc: Global,
-    disk: U,
-    tape: U,
-    printer: U,
-    reader: U,
-    punch: U,
-    clock: U,
-    keyboard: U,
-    teleprinter: U,
-    keyboard_1: U,
-    teleprinter_1: U,
-    row: Row<'_>,
-) -> Result<(), AllocError>
-    requires disk { U.unit_state disk ≡ initial_unit disks }
-    requires tape { U.unit_state tape ≡ initial_unit tapes }
-    requires printer { U.unit_state printer ≡ initial_unit printers }
-    requires reader { U.unit_state reader ≡ initial_unit readers }
-    requires punch { U.unit_state punch ≡ initial_unit punches }
-    requires clock { U.unit_state clock ≡ initial_unit clocks }
-    requires keyboard { U.unit_state keyboard ≡ initial_unit keyboards }
-    requires teleprinter { U.unit_state teleprinter ≡ initial_unit teleprinters }
-    requires keyboard_1 { U.unit_state keyboard_1 ≡ initial_unit second_keyboards }
-    requires teleprinter_1 { U.unit_state teleprinter_1 ≡ initial_unit second_printers }
-{
-    let mut units = Vec::new(alloc);
-    push_four(&mut units, disk, tape, printer, reader)?;
-    push_four(&mut units, punch, clock, keyboard, teleprinter)?;
-    push_two(&mut units, keyboard_1, teleprinter_1)?;
+fn play(rt: &impl Abort, alloc: Global, row: Row<'_>) -> Result<(), AllocError> {
+    let units = standard_units(alloc)?;
     with_units(rt, alloc, units, row)
 }
 
-fn with_units<U: Unit>(
+/// Plays a row with these units.
+pub fn with_units<U: Unit>(
     rt: &impl Abort,
     alloc: Global,
     units: Vec<U>,

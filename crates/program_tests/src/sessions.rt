@@ -55,27 +55,12 @@ lines=D ION 1~D MASK 7~D SR 5~D 100 63077~GO 100~E ION,MASK~RUN 100~E ION,MASK,S
 ; a status of EXIT is 0 to 99
 lines=EXIT 100~quit 42~E AC0~ | prints=Value out of range~ | status=42";
 
-#[test]
-fn sessions_print_and_end_as_the_table_says(rt: HostRuntime) -> Result<(), Fail> {
-    all(&rt, rt.alloc(), "words=-q", SESSIONS)
-}
-
 const PROMPTS: &str = "prints=sim>  | status=0
 lines=~EXAMINE PC | prints=sim> sim> PC:\t00000~sim>  | status=0";
-
-#[test]
-fn the_prompt_comes_before_each_line(rt: HostRuntime) -> Result<(), Fail> {
-    all(&rt, rt.alloc(), "", PROMPTS)
-}
 
 const BUDGETS: &str = "words=-q -m 2 | status=104 | prints=a~b~ | left=CHO c~
 words=-m 3 -q | prints=a~b~c~
 words=-q -m 4294967296 | prints=a~b~c~";
-
-#[test]
-fn a_budget_ends_the_session_before_a_line(rt: HostRuntime) -> Result<(), Fail> {
-    all(&rt, rt.alloc(), "lines=ECHO a~ECHO b~ECHO c~", BUDGETS)
-}
 
 const LIMITS: &str = "words=-q -l 5
 words=-l 5 -q
@@ -84,11 +69,6 @@ words=-q -l 281474976710656 | lines= | prints=";
 const RUNS: &str =
     "lines=DEPOSIT 100 400~GO 100~SHOW TIME~STEP 7~STEP 5~SHOW TIME~ | prints=~Instruction limit, PC: 00100 (000400)~Time: 5~~Instruction limit, PC: 00100 (000400)~~Step expired, PC: 00100 (000400)~Time: 15~";
 
-#[test]
-fn a_limit_ends_each_run(rt: HostRuntime) -> Result<(), Fail> {
-    all(&rt, rt.alloc(), RUNS, LIMITS)
-}
-
 /// A program that loops, while both keyboards look for keys.
 const LOOPS: &str =
     "words=-q -l 250 | lines=D 100 400~GO 100~E TTI1 STATE~SHOW QUEUE~ | prints=~Instruction limit, PC: 00100 (000400)~BUSY:\t0~DONE:\t0~TIME:\t000144~BUF:\t000~TTI 50~TTI1 50~";
@@ -96,11 +76,6 @@ const LOOPS: &str =
 const CALLERS: &str = "types=A
 ; without a caller
 status=0";
-
-#[test]
-fn a_caller_waits_where_no_port_is_attached(rt: HostRuntime) -> Result<(), Fail> {
-    all(&rt, rt.alloc(), LOOPS, CALLERS)
-}
 
 /// A run of one instruction.
 const STEPS: &str =
@@ -158,12 +133,6 @@ room=46 | status=0";
 const PRINTED: &str =
     "words=-q | lines=D AC0 101~D 100 61111~D 101 63611~D 102 777~D 103 63077~GO 100~SHOW TIME~SHOW QUEUE~E TTO DONE~RESET~E TTO DONE~E PC~SHOW QUEUE~ | prints=A | status=102";
 
-#[test]
-fn a_full_console_ends_the_session_where_it_is(rt: HostRuntime) -> Result<(), Fail> {
-    all(&rt, rt.alloc(), STEPS, ROOMS)?;
-    all(&rt, rt.alloc(), PRINTED, "room=0\nroom=1")
-}
-
 const READS: &str = "read=0
 read=1
 read=2
@@ -192,6 +161,14 @@ read=23 | prints=PC:\t00000~AC1:\t000000~";
 const EXAMINES: &str = "words=-q | lines=EXAMINE PC~EXAMINE AC1~ | prints= | status=106";
 
 #[test]
-fn a_failing_read_ends_the_session_behind_the_whole_lines(rt: HostRuntime) -> Result<(), Fail> {
-    all(&rt, rt.alloc(), EXAMINES, READS)
+fn sessions_end_with_their_status(rt: HostRuntime) -> Result<(), Fail> {
+    all(&rt, rt.alloc(), "words=-q", SESSIONS)?;
+    all(&rt, rt.alloc(), "", PROMPTS)?;
+    all(&rt, rt.alloc(), "lines=ECHO a~ECHO b~ECHO c~", BUDGETS)?;
+    all(&rt, rt.alloc(), RUNS, LIMITS)?;
+    all(&rt, rt.alloc(), LOOPS, CALLERS)?;
+    all(&rt, rt.alloc(), STEPS, ROOMS)?;
+    all(&rt, rt.alloc(), PRINTED, "room=0\nroom=1")?;
+    all(&rt, rt.alloc(), EXAMINES, READS)?;
+    Ok(())
 }

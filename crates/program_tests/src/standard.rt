@@ -1,10 +1,6 @@
-use crate::boxes::{push_four, push_two};
 use crate::checked::holds;
-use crate::row::Row;
-use crate::units::{Purpose, with_new_units};
+use crate::units::standard_units;
 use nova_top::is_standard;
-use std::alloc::{AllocError, Global};
-use std::process::Abort;
 use std::test::Fail;
 use unit_trait::Unit;
 
@@ -38,40 +34,13 @@ fn are_standard_in_order<U: Unit>(units: &mut [U]) -> bool {
     !swapped && is_standard(units)
 }
 
-/// Ends the test where these units, in bus order, are not told from others.
-pub fn tell<U: Unit>(
-    rt: &impl Abort,
-    alloc: Global,
-    disk: U,
-    tape: U,
-    printer: U,
-    reader: U,
-    punch: U,
-    clock: U,
-    keyboard: U,
-    teleprinter: U,
-    keyboard_1: U,
-    teleprinter_1: U,
-    line: &str,
-) -> Result<(), AllocError> {
-    let mut units = Vec::new(alloc);
-    push_four(&mut units, disk, tape, printer, reader)?;
-    push_four(&mut units, punch, clock, keyboard, teleprinter)?;
-    push_two(&mut units, keyboard_1, teleprinter_1)?;
-    holds(rt, are_told(units.as_mut_slice()), line);
-    Ok(())
-}
-
 fn are_told<U: Unit>(units: &mut [U]) -> bool {
     are_standard_together(units) && are_standard_in_order(units) && !stay_standard(units)
 }
 
 #[test]
 fn standard_units_are_told_by_their_kinds_and_registers(rt: HostRuntime) -> Result<(), Fail> {
-    let row = Row {
-        base: "",
-        line: "standard units",
-    };
-    with_new_units(&rt, rt.alloc(), Purpose::Tell, row)?;
+    let mut units = standard_units(rt.alloc())?;
+    holds(&rt, are_told(units.as_mut_slice()), "standard units");
     Ok(())
 }

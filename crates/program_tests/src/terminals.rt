@@ -12,11 +12,6 @@ lines=ATTACH TTI1 4000~D 100 400~GO 100~E TTI1 BUF~ | prints=~Instruction limit,
 ; the call that accepts at the first look fails, and that of the second does not
 types=A | sent= | refuses=1 | lost=1 | lines=ATTACH TTI1 4000~D 100 400~GO 100~E TTI1 BUF~ | prints=~Instruction limit, PC: 00100 (000400)~BUF:\t101~";
 
-#[test]
-fn a_key_of_a_caller_comes_to_the_second_teletype(rt: HostRuntime) -> Result<(), Fail> {
-    all(&rt, rt.alloc(), "words=-q -l 250", TYPED)
-}
-
 /// A program that prints each key at once.
 const ECHOES: &str =
     "types=A | lines=ATTACH TTI1 4000~D TTO1 TIME 10~D 100 63650~D 101 777~D 102 60650~D 103 61151~D 104 100~GO 100~ | prints=~Instruction limit, PC: 00100 (063650)~";
@@ -61,11 +56,6 @@ refuses=0 | lost=1 | lines=ATTACH TTI1 4000~SHOW TTI1~DETACH TTI1~ATTACH TTI1 40
 ; it is the refused line that makes no call
 refuses=1 | lost=1 | lines=ATTACH TTI1 0~ATTACH TTI1 4000~DETACH TTI1~ATTACH TTI1 4000~SHOW TTI1~ | prints=Value out of range~Port not available~TTI1, not attached~";
 
-#[test]
-fn ports_are_refused_in_their_order(rt: HostRuntime) -> Result<(), Fail> {
-    all(&rt, rt.alloc(), "words=-q", REFUSED)
-}
-
 const ENDS: &str = "status=0
 more=EXIT 3~ | status=3
 more=DETACH TTI1~EXIT 3~ | status=3
@@ -76,11 +66,6 @@ words=-q -m 1 | more=E PC~ | status=104 | ports=1
 words=-q -m 2 | more=DETACH ALL~E PC~ | status=104
 room=0 | more=E PC~EXIT~ | then=PC:\t00000~ | status=102 | ports=1";
 
-#[test]
-fn a_session_that_is_done_listens_no_more(rt: HostRuntime) -> Result<(), Fail> {
-    all(&rt, rt.alloc(), "words=-q | lines=ATTACH TTI1 4000~", ENDS)
-}
-
 /// Sector 0 is written, and can't be written back.
 const UNWRITTEN: &str =
     "words=-q | fails=2 0 | lines=ATTACH TTI1 4000~ATTACH -N DSK d~D DSK MA 200~D 100 60320~D 101 63620~D 102 777~D 103 63077~GO 100~ | prints=~HALT instruction, PC: 00104 (000000)~ | after=d:";
@@ -90,6 +75,10 @@ more=DETACH ALL~SHOW TTI1~EXIT 3~ | then=File error~TTI1, listening on port 4000
 more=EXIT 4~SHOW TTI1~EXIT 3~ | then=File error~TTI1, listening on port 4000~ | status=3 | note=9 203 Write 0 | after=d:\0…";
 
 #[test]
-fn a_failed_flush_keeps_the_port(rt: HostRuntime) -> Result<(), Fail> {
-    all(&rt, rt.alloc(), UNWRITTEN, KEPT)
+fn terminals_are_called(rt: HostRuntime) -> Result<(), Fail> {
+    all(&rt, rt.alloc(), "words=-q -l 250", TYPED)?;
+    all(&rt, rt.alloc(), "words=-q", REFUSED)?;
+    all(&rt, rt.alloc(), "words=-q | lines=ATTACH TTI1 4000~", ENDS)?;
+    all(&rt, rt.alloc(), UNWRITTEN, KEPT)?;
+    Ok(())
 }

@@ -45,11 +45,6 @@ words=-- demo
 ; a name of 256 bytes
 words=nnnnnnnnnnnnnnnnnnnnnnnnnnnnnnnnnnnnnnnnnnnnnnnnnnnnnnnnnnnnnnnnnnnnnnnnnnnnnnnnnnnnnnnnnnnnnnnnnnnnnnnnnnnnnnnnnnnnnnnnnnnnnnnnnnnnnnnnnnnnnnnnnnnnnnnnnnnnnnnnnnnnnnnnnnnnnnnnnnnnnnnnnnnnnnnnnnnnnnnnnnnnnnnnnnnnnnnnnnnnnnnnnnnnnnnnnnnnnnnnnnnnnnnnnnnnnnnn";
 
-#[test]
-fn words_outside_the_grammar_print_the_usage(rt: HostRuntime) -> Result<(), Fail> {
-    all(&rt, rt.alloc(), REFUSED, BAD_WORDS)
-}
-
 /// In the grammar: the script is looked for, and is not there.
 const MISSING: &str =
     "lines=DEPOSIT 40 7~DEPOSIT 100 20040~DEPOSIT PC 100~STEP~EXAMINE AC0~EXIT~ | status=101 | prints=Cannot open demo~";
@@ -63,11 +58,6 @@ words=-m 5 demo -k
 ; a console fault prevails
 words=demo | lines= | room=8 | status=102 | machine=none";
 
-#[test]
-fn a_script_ends_the_words(rt: HostRuntime) -> Result<(), Fail> {
-    all(&rt, rt.alloc(), MISSING, SCRIPTS)
-}
-
 /// What the workload prints was worked out apart from the program, and so were its words: the first two and the last, what is
 /// before and behind them, and the loop.
 const WORKLOAD: &str =
@@ -79,6 +69,9 @@ words=-m 3 -l 1 -g 1
 words=-m 2 -l 1 -g 1 | status=104 | prints=~Instruction limit, PC: 01001 (167237)~AC0:\t000000~AC1:\t000000~AC2:\t000000~AC3:\t000000~C:\t0~";
 
 #[test]
-fn a_workload_is_done_in_place_of_a_session(rt: HostRuntime) -> Result<(), Fail> {
-    all(&rt, rt.alloc(), WORKLOAD, WORKLOADS)
+fn words_begin_a_session(rt: HostRuntime) -> Result<(), Fail> {
+    all(&rt, rt.alloc(), REFUSED, BAD_WORDS)?;
+    all(&rt, rt.alloc(), MISSING, SCRIPTS)?;
+    all(&rt, rt.alloc(), WORKLOAD, WORKLOADS)?;
+    Ok(())
 }

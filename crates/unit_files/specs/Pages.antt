@@ -1,6 +1,6 @@
 -- The pages in which the disk's copy of its file is written back, and which of them are marked. No definition of what is done
 -- speaks of them: they are the way of the code, and what they come to is a content alone.
-use Rattle.std.specs.Prelude.{ℕ, ◌+◌, ◌-◌, ◌/◌, ◌^◌, Bool, true, false, List, ◌++◌, take, drop, replicate}
+use Rattle.std.specs.Prelude.{ℕ, ◌+◌, ◌-◌, ◌/◌, ◌^◌, Bool, true, List, ◌++◌, take, drop, replicate}
 use Rattle.unit_files.specs.Aside.{aside_length, nothing_aside}
 
 -- how many bytes a page of the copy has

@@ -1,7 +1,6 @@
-use Rattle.std.proofs.Common.{◌≡◌, ◌∙◌, ap, map, take, List, Result, Ok, Err, IfOk}
-use Rattle.unit_trait.specs.Kinds.{all_kinds}
+use Rattle.std.proofs.Common.{◌≡◌, ◌∙◌, ap, map, List, Result, Ok, Err, IfOk}
 use Rattle.unit_trait.specs.Calls.{UnitState}
-use Rattle.unit_trait.specs.Row.{initial_unit}
+use Rattle.command_words.specs.Standard.{IsStandard}
 use Rattle.unit_list.specs.Bus.{kinds_of}
 use Rattle.unit_list.proofs.Resets.{reset-kinds}
 use Rattle.nova_machine.specs.Machine.{MachineState, new_machine, reset_machine, reset_devices}
@@ -13,7 +12,7 @@ new-kinds : (units : List UnitState) → kinds_of (new_machine units).units ≡ 
 unfolding new_machine reset_machine reset_devices
 new-kinds units = reset-kinds units
 
-new-standard : {E : Type 0} (units : List UnitState) (r : Result CommandState E) → units ≡ map initial_unit (take 10 all_kinds)
+new-standard : {E : Type 0} (units : List UnitState) (r : Result CommandState E) → IsStandard units
     → IfOk r (λ s. s.machine ≡ new_machine units) → IfOk r (λ s. AreStandard s.machine.units)
 new-standard units (Ok s) are made = ap (λ (m : MachineState). kinds_of m.units) made ∙ new-kinds units ∙ ap kinds_of are
 new-standard units (Err fault) are made = tt

@@ -3,7 +3,7 @@ use Rattle.std.proofs.lemmas.List.{length-take}
 use Rattle.file_traits.specs.Lists.{changed}
 use Rattle.file_traits.specs.State.{Opened, name_at}
 use Rattle.unit_files.specs.Aside.{aside_length}
-use Rattle.unit_files.specs.Pages.{page_bytes, disk_pages}
+use Rattle.unit_files.specs.Pages.{page_bytes}
 use Rattle.unit_files.specs.InStep.{written_pages}
 use Rattle.unit_files.specs.Acts.{piece_of}
 use Rattle.unit_files.proofs.WrittenPages.{unchanged, page-written, page-failed, end-within, all-written, claimed}

@@ -1,0 +1,7 @@
+// Tape images.
+mod lists;
+mod reading;
+mod spacing;
+mod test_tape;
+mod texts;
+mod writing;

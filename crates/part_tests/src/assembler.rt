@@ -1,0 +1,3 @@
+// The assembler.
+mod sizes;
+mod sources;

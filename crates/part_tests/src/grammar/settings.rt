@@ -1,0 +1,39 @@
+use crate::grammar::reading::all;
+
+const SET_TAKES_A_SIZE_OF_MEMORY: &str = "SET CPU 4K|SetSize 4
+set cpu 32k|SetSize 32
+SET CPU 0K|SetSize 0
+SET CPU 007K|SetSize 7
+SET\tCPU\t16K\t|SetSize 16
+SET CPU 9223372036854775809K|SetSize max";
+
+const SET_TAKES_A_DISCONNECTION: &str = "SET TTI1 DISCONNECT|Disconnect TTI1
+set tti1 disconnect\t|Disconnect TTI1";
+
+const SETTINGS_HAVE_ONE_FAULT: &str = "SET|Missing
+SET \t|Missing
+SET 8|BadNumber 4
+SET PTR|BadName 4
+SET TTI DISCONNECT|BadName 4
+SET CP 8K|BadName 4
+SET CPU|Missing
+SET CPU 8|BadNumber 8
+SET CPU K|BadName 8
+SET CPU 8KK|BadNumber 8
+SET CPU 8M|BadNumber 8
+SET CPU X|BadName 8
+SET CPU 8 K|BadNumber 8
+SET CPU -8K|BadName 8
+SET CPU 8K 8K|Extra 11
+SET TTI1|Missing
+SET TTI1 8|BadNumber 9
+SET TTI1 DISC|BadName 9
+SET TTI1 DISCONNECTED|BadName 9
+SET TTI1 DISCONNECT 1|Extra 20";
+
+#[test]
+fn settings_are_read(rt: HostRuntime) {
+    all(&rt, SET_TAKES_A_SIZE_OF_MEMORY);
+    all(&rt, SET_TAKES_A_DISCONNECTION);
+    all(&rt, SETTINGS_HAVE_ONE_FAULT);
+}
