@@ -6,7 +6,7 @@ use Rattle.file_traits.specs.State.{FileState}
 use Rattle.host_lines.specs.Traffic.{Ahead, Answer as LineAnswer}
 use Rattle.host_lines.specs.Told.{ahead_of}
 use Rattle.host_lines.specs.State.{LineState}
-use Rattle.unit_files.specs.Attachments.{Attachment, Held, attachments_of, attachment_at, no_files}
+use Rattle.unit_files.specs.Attachments.{Held, attachments_of, attachment_at, no_files}
 use Rattle.unit_files.specs.Buffer.{disk_unit}
 use Rattle.unit_files.specs.InStep.{StepAt, InStep}
 use Rattle.file_commands.specs.declared.note.FaultNote.{FaultNote}

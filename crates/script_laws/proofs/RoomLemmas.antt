@@ -1,5 +1,5 @@
 -- There is room for the script that a command begins, which is a DO.
-use Rattle.std.proofs.Common.{ℕ, ◌<◌, true, false, List, length, refl, Some, None, Ok, Err, min, nat_le, unwrap_or}
+use Rattle.std.proofs.Common.{ℕ, ◌<◌, true, false, List, length, refl, Some, None, Ok, Err, unwrap_or}
 use Rattle.file_commands.specs.Notes.{CommandNote}
 use Rattle.scp_parser.specs.Command.{Request}
 use Rattle.scp_parser.specs.Command as request
