@@ -1,0 +1,9 @@
+pub mod Results
+pub mod ReaderLaws
+pub mod Widths
+pub mod Lists
+pub mod LayoutLaws
+pub mod PartLaws
+pub mod FedLaws
+pub mod WholeLaws
+pub mod WriteLaws
