@@ -93,7 +93,7 @@ pub takes : {Y : Type 0} (stage : Stage) (whole rest : Reader Y) (kept : ℕ) (o
     → IsTaken old new piece count → IsFed stage whole rest kept old fed → IsFed stage whole rest kept new (fed ++ piece)
 takes Open whole rest kept old new fed piece count bytes within wanted taken it = (bytes_joined fed piece it.0 bytes, takes_open whole rest old new fed piece count wanted taken it.1)
 takes AtEnd whole rest kept old new fed piece count bytes within wanted taken it = (bytes_joined fed piece it.0 bytes, takes_end whole rest kept old new fed piece count within wanted taken it.1)
-takes (Faulty place) whole rest kept old new fed piece count bytes within wanted taken it =
+takes (Faulty fault) whole rest kept old new fed piece count bytes within wanted taken it =
     (bytes_joined fed piece it.0 bytes, λ tail. ap (λ (l : List ℕ). whole (first_place l)) (append_assoc fed piece tail) ∙ it.1 (piece ++ tail))
 
 pub then_settled : (P M Q : List ℕ → Type 0) (result : Result (Unit {0}) AllocError) (piece : List ℕ) → ((fed : List ℕ) → P fed → M (fed ++ piece)) → OnOk result ((fed : List ℕ) → M fed → Q fed)

@@ -1,6 +1,7 @@
 pub mod Results
 pub mod ReaderLaws
 pub mod Widths
+pub mod HeadLaws
 pub mod Lists
 pub mod LayoutLaws
 pub mod PartLaws

@@ -10,7 +10,7 @@ use Rattle.byte_layouts.specs.declared.fault.FieldFault.TheVariants.{BadField, T
 use Rattle.byte_layouts.specs.Readers.{At, at_of, Reader, followed, ◌>>=◌, gives, chain, with_last, longer, Fails}
 use Rattle.byte_layouts.specs.Layout.{Layout, text, reading, Has}
 use Rattle.byte_layouts.specs.Held.{Held, at_in, IsBytes, IsPassed, IsThere, Passed}
-use Rattle.byte_layouts.specs.Parts.{Found, FindsIn, Taken, Missed, Takes, Further, IsRead, GoesOn, rest_of_one, rest_of_elements, rest_of_list, both}
+use Rattle.byte_layouts.specs.Parts.{Found, FindsIn, Taken, Missed, Takes, Further, IsRead, GoesOn, rest_of_one, rest_of_elements, rest_of_list, rest_of_measured, both}
 use Rattle.byte_layouts.proofs.ReaderLaws.{IsReaderOf}
 use Rattle.byte_layouts.proofs.LayoutLaws.{law}
 
@@ -65,7 +65,7 @@ taken {A} l old new x place bytes it passed = record {
 pub missed : {X Y : Type 0} (view : X → Y) (l : Layout Y) (fault : FieldFault) (h : Held) → IsBytes h.rest → Fails fault (reading l (at_in h)) → Takes view (reading l) (Err fault) h h
 missed view l OutOfMemory h bytes e = tt
 missed view l Truncated h bytes e = record { same = refl; short = e }
-missed view l (BadField place) h bytes e = λ tail. (law l).bad (at_in h) (BadField place) tail bytes e (λ q. absurd cc)
+missed view l fault h bytes e = λ tail. (law l).bad (at_in h) fault tail bytes e (λ q. absurd cc)
 
 -- ---- a part
 
@@ -80,7 +80,7 @@ pub goes_on : {Y : Type 0} (over : Type 0) (result : Result (Unit {0}) FieldFaul
 goes_on over (Ok u) a b c old mid new one it = (both_further a b c old mid new one it.0, it.1, it.2)
 goes_on over (Err OutOfMemory) a b c old mid new one it = tt
 goes_on over (Err Truncated) a b c old mid new one it = (both_further a b c old mid new one it.0, it.1)
-goes_on over (Err (BadField place)) a b c old mid new one it = λ tail. one.goes tail ∙ it tail
+goes_on over (Err fault) a b c old mid new one it = λ tail. one.goes tail ∙ it tail
 
 -- what is read first has the fault of what is read
 abbrev pub StopsWith : {Y Z : Type 0} → Reader Z → Reader Y → Type 0
@@ -91,7 +91,7 @@ pub stops : {X Y Z : Type 0} (over : Type 0) (view : X → Z) (reader : Reader Z
 stops over view reader OutOfMemory a b old mid new so_far first it = tt
 stops over view reader Truncated a b old mid new so_far first it =
     subst (λ (h : Held). Further a b old h × (b (at_in h) ≡ Err Truncated)) (sym it.same) (so_far, first (at_in mid) Truncated it.short)
-stops over view reader (BadField place) a b old mid new so_far first it = λ tail. so_far.goes tail ∙ first (longer (at_in mid) tail) (BadField place) (it tail)
+stops over view reader fault a b old mid new so_far first it = λ tail. so_far.goes tail ∙ first (longer (at_in mid) tail) fault (it tail)
 
 -- ---- one value
 
@@ -178,7 +178,7 @@ second_goes : {A B : Type 0} (over also : Bool) (result : Result (Unit {0}) Fiel
 second_goes over also (Ok u) a b d old new read has it = (second_further a b d old new read it.0, both_read a d read it.1, ap (λ (x : Bool). x && also) has ∙ it.2)
 second_goes over also (Err OutOfMemory) a b d old new read has it = tt
 second_goes over also (Err Truncated) a b d old new read has it = (second_further a b d old new read it.0, behind_read a d read (at_in new) ∙ ap (put_second read.0) it.1)
-second_goes over also (Err (BadField place)) a b d old new read has it = λ tail. behind_read a b read (longer (at_in old) tail) ∙ ap (put_second read.0) (it tail)
+second_goes over also (Err fault) a b d old new read has it = λ tail. behind_read a b read (longer (at_in old) tail) ∙ ap (put_second read.0) (it tail)
 
 pub both_go : {A B : Type 0} (over also : Bool) (result : Result (Unit {0}) FieldFault) (a c : Reader A) (b d : Reader B) (old mid new : Held)
     → Further a c old mid → IsRead c → over ≡ true → GoesOn (also ≡ true) result b d mid new → GoesOn ((over && also) ≡ true) result (both a b) (both c d) old new
@@ -189,7 +189,7 @@ pub first_stops : {A B : Type 0} (over also : Type 0) (fault : FieldFault) (a c 
     → GoesOn also (Err fault) (both a b) (both c b) old new
 first_stops over also OutOfMemory a c b old new it = tt
 first_stops over also Truncated a c b old new it = (first_further a c b old new it.0, first_first c b (at_in new) Truncated it.1)
-first_stops over also (BadField place) a c b old new it = λ tail. first_first a b (longer (at_in old) tail) (BadField place) (it tail)
+first_stops over also fault a c b old new it = λ tail. first_first a b (longer (at_in old) tail) fault (it tail)
 
 -- ---- a list behind the number of its elements
 
@@ -210,7 +210,7 @@ also_over : {Y : Type 0} (over also : Type 0) (result : Result (Unit {0}) FieldF
 also_over over also (Ok u) a b old new more it = (it.0, it.1, more it.2)
 also_over over also (Err OutOfMemory) a b old new more it = tt
 also_over over also (Err Truncated) a b old new more it = it
-also_over over also (Err (BadField place)) a b old new more it = it
+also_over over also (Err fault) a b old new more it = it
 
 pub list_goes : {A : Type 0} (result : Result (Unit {0}) FieldFault) (counts : Reader ℕ) (each : List A → Reader A) (before : Reader (List A)) (counted : Bool) (left more : ℕ) (front all : List A) (old mid new : Held)
     → Further before (rest_of_elements each left front) old mid → counted ≡ true → GoesOn (more ≡ 0) result (rest_of_elements each left front) (rest_of_elements each more all) mid new
@@ -219,3 +219,51 @@ list_goes result counts each before true left more front all old mid new one is 
     also_over (more ≡ 0) ((true && more == 0) ≡ true) result before (rest_of_elements each more all) old new (λ e. eq-eqb more 0 e)
     (goes_on (more ≡ 0) result before (rest_of_elements each left front) (rest_of_elements each more all) old mid new one it)
 list_goes result counts each before false left more front all old mid new one is it = absurd cc
+
+-- ---- a value and those behind it, as many as it tells
+
+abbrev put_last : {Y A : Type 0} → Y → Result (A × At) FieldFault → Result ((Y × A) × At) FieldFault
+put_last y read = followed read (λ xs next. Ok ((y, xs), next))
+
+pub head_taken : {X Y A : Type 0} (view : X → Y) (count : Y → ℕ) (reader : Reader Y) (each : List A → Reader A) (o : Option X) (x : X) (left n : ℕ) (front : List A) (old new : Held) → is_some o ≡ false → n ≡ count (view x)
+    → Taken reader (view x) old new → Further (rest_of_measured view count reader each o left front) (rest_of_measured view count reader each (Some x) n front) old new
+head_taken view count reader each (Some y) x left n front old new none is it = absurd cc
+head_taken {X} {Y} {A} view count reader each None x left n front old new none is it = record {
+  passed = it.passed;
+  goes = λ tail. ap (λ (z : Result (Y × At) FieldFault). followed z (λ y next. put_last {A = List A} y (rest_of_elements each (count y) front next))) (it.found tail)
+      ∙ ap (λ (k : ℕ). put_last {A = List A} (view x) (rest_of_elements each k front (longer (at_in new) tail))) (sym is);
+}
+
+pub measured_goes : {X Y A : Type 0} (result : Result (Unit {0}) FieldFault) (view : X → Y) (count : Y → ℕ) (reader : Reader Y) (each : List A → Reader A) (before : Reader (Y × List A)) (o : Option X) (left more : ℕ) (front all : List A)
+    (old mid new : Held) → Further before (rest_of_measured view count reader each o left front) old mid → is_some o ≡ true → GoesOn (more ≡ 0) result (rest_of_elements each left front) (rest_of_elements each more all) mid new
+    → GoesOn ((is_some o && more == 0) ≡ true) result before (rest_of_measured view count reader each o more all) old new
+measured_goes result view count reader each before None left more front all old mid new one some it = absurd cc
+measured_goes {X} {Y} {A} result view count reader each before (Some x) left more front all old mid new one some it =
+    goes_on ((true && more == 0) ≡ true) result before (rest_of_measured view count reader each (Some x) left front) (rest_of_measured view count reader each (Some x) more all) old mid new one
+    (behind_goes result (rest_of_elements each left front) (rest_of_elements each more all) mid new it)
+  where
+    behind_goes : (result : Result (Unit {0}) FieldFault) (b d : Reader (List A)) (old new : Held) → GoesOn (more ≡ 0) result b d old new
+        → GoesOn ((true && more == 0) ≡ true) result (λ at. put_last (view x) (b at)) (λ at. put_last (view x) (d at)) old new
+    behind_goes (Ok u) b d old new it = (
+      record { passed = it.0.passed; goes = λ tail. ap (put_last (view x)) (it.0.goes tail) },
+      ((view x, it.1.0), λ at. ap (put_last (view x)) (it.1.1 at)),
+      eq-eqb more 0 it.2,
+    )
+    behind_goes (Err OutOfMemory) b d old new it = tt
+    behind_goes (Err Truncated) b d old new it = (record { passed = it.0.passed; goes = λ tail. ap (put_last (view x)) (it.0.goes tail) }, ap (put_last (view x)) it.1)
+    behind_goes (Err fault) b d old new it = λ tail. ap (put_last (view x)) (it tail)
+
+none_before : {A : Type 0} (read : Result (List A × At) FieldFault) → put_before [] read ≡ read
+none_before (Ok x) = refl
+none_before (Err fault) = refl
+
+same_followed : {A B : Type 0} (read : Result (A × At) FieldFault) (f g : A → At → Result B FieldFault) → ((x : A) (at : At) → f x at ≡ g x at) → followed read f ≡ followed read g
+same_followed (Ok x) f g same = same x.0 x.1
+same_followed (Err fault) f g same = refl
+
+pub measured_fresh : {X Y A : Type 0} (view : X → Y) (count : Y → ℕ) (reader : Reader Y) (each : List A → Reader A) (left : ℕ) (front : List A) → front ≡ [] → (at : At)
+    → rest_of_measured view count reader each None left front at ≡ followed (reader at) (λ y next. put_last {A = List A} y (chain each with_last (count y) [] next))
+measured_fresh {X} {Y} {A} view count reader each left front none at =
+    ap (λ (f : List A). rest_of_measured view count reader each None left f at) none
+    ∙ same_followed (reader at) (λ y next. put_last {A = List A} y (rest_of_elements each (count y) [] next)) (λ y next. put_last {A = List A} y (chain each with_last (count y) [] next))
+    (λ y next. ap (put_last {A = List A} y) (none_before (chain each with_last (count y) [] next)))

@@ -4,7 +4,7 @@ use Rattle.std.proofs.lemmas.Bool.{cases_lt, ltb-false, le-ltb}
 use Rattle.std.proofs.lemmas.List.{take_at, drop_at, take-append-drop, take-append-le, drop-append-le, length-append, length-take, length-take-le, get_or-drop, get_or-take, get_or_past}
 use Rattle.byte_layouts.specs.declared.fault.FieldFault.{FieldFault}
 use Rattle.byte_layouts.specs.declared.fault.FieldFault.TheVariants.{Truncated, BadField}
-use Rattle.byte_layouts.specs.Readers.{At, at_of, Reader, followed, ◌>>=◌, gives, behind, counted, passed, tested, longer}
+use Rattle.byte_layouts.specs.Readers.{At, at_of, Reader, followed, ◌>>=◌, gives, behind, counted, passed_or, tested_or, tested, longer}
 use Rattle.byte_layouts.specs.Held.{IsBytes}
 use Rattle.byte_layouts.proofs.Results.{value_parts, fault_parts, first_chosen, second_chosen, first_refused, second_refused, one_value, no_fault}
 
@@ -213,26 +213,29 @@ recast {reader} {t} {u} {H} {G} law to from = retold reader t u H G law to from
 
 -- ---- a test
 
-pub tested_is : {A : Type 0} (ok : A → Bool) (reader : Reader A) (t : A → List ℕ) (H : A → Type 0) → IsReaderOf reader t H
-    → IsReaderOf (tested ok reader) t (λ x. H x × (ok x ≡ true))
-tested_is {A} ok reader t H law = record {
+pub tested_or_is : {A : Type 0} (fault : ℕ → A → FieldFault) (ok : A → Bool) (reader : Reader A) (t : A → List ℕ) (H : A → Type 0) → IsReaderOf reader t H
+    → IsReaderOf (tested_or fault ok reader) t (λ x. H x × (ok x ≡ true))
+tested_or_is {A} fault ok reader t H law = record {
   takes = λ at next x fits e.
-      let p = value_parts (reader at) (λ y mid. passed at.place (ok y) y mid) (x, next) e in
-      let g = first_chosen (ok p.0) (Ok (p.0, p.1)) (BadField at.place) (x, next) p.3 in
+      let p = value_parts (reader at) (λ y mid. passed_or (fault at.place y) (ok y) y mid) (x, next) e in
+      let g = first_chosen (ok p.0) (Ok (p.0, p.1)) (fault at.place p.0) (x, next) p.3 in
       let is = one_value (p.0, p.1) (x, next) (Ok (p.0, p.1)) refl g.1 in
       let one = law.takes at p.1 p.0 fits p.2 in
       subst (λ (q : A × At). Took at (t q.0) q.1 × (H q.0 × (ok q.0 ≡ true))) is (one.0, (one.1, g.0));
   again = λ place rest x has. rw (law.again place rest x has.0, has.1) refl;
   more = λ at next x tail fits e.
-      let p = value_parts (reader at) (λ y mid. passed at.place (ok y) y mid) (x, next) e in
-      let g = first_chosen (ok p.0) (Ok (p.0, p.1)) (BadField at.place) (x, next) p.3 in
+      let p = value_parts (reader at) (λ y mid. passed_or (fault at.place y) (ok y) y mid) (x, next) e in
+      let g = first_chosen (ok p.0) (Ok (p.0, p.1)) (fault at.place p.0) (x, next) p.3 in
       let is = one_value (p.0, p.1) (x, next) (Ok (p.0, p.1)) refl g.1 in
       let test = g.0 in
       rw (law.more at p.1 p.0 tail fits p.2, test) (ap (λ (q : A × At). Ok (q.0, longer q.1 tail)) is);
-  bad = λ at f tail fits e other. elim (fault_parts (reader at) (λ y mid. passed at.place (ok y) y mid) f e) [
+  bad = λ at f tail fits e other. elim (fault_parts (reader at) (λ y mid. passed_or (fault at.place y) (ok y) y mid) f e) [
     | inl h ↦ rw (law.bad at f tail fits h other) refl
-    | inr p ↦ let g = first_refused (ok p.0) (BadField at.place) f (p.0, p.1) p.3 in
+    | inr p ↦ let g = first_refused (ok p.0) (fault at.place p.0) f (p.0, p.1) p.3 in
         let test = g.0 in
         rw (law.more at p.1 p.0 tail fits p.2, test) (ap (λ (d : FieldFault). Err d) (sym g.1))
   ];
 }
+
+pub tested_is : {A : Type 0} (ok : A → Bool) (reader : Reader A) (t : A → List ℕ) (H : A → Type 0) → IsReaderOf reader t H → IsReaderOf (tested ok reader) t (λ x. H x × (ok x ≡ true))
+tested_is ok reader t H law = tested_or_is (λ place x. BadField place) ok reader t H law

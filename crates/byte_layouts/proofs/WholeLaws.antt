@@ -3,7 +3,7 @@ use Rattle.std.proofs.Common.{◌≡◌, ◌≢◌, ℕ, ◌+◌, ◌<◌, Bool,
 use Rattle.std.proofs.lemmas.Bool.{eqb-true}
 use Rattle.std.proofs.lemmas.List.{length-append, nil_from_length}
 use Rattle.byte_layouts.specs.declared.fault.FieldFault.{FieldFault}
-use Rattle.byte_layouts.specs.declared.fault.FieldFault.TheVariants.{BadField, Truncated, OutOfMemory}
+use Rattle.byte_layouts.specs.declared.fault.FieldFault.TheVariants.{NotHead, Version, BadField, Truncated, OutOfMemory}
 use Rattle.byte_layouts.specs.Readers.{At, at_of, Reader, followed, longer, Gives, Fails}
 use Rattle.byte_layouts.specs.Layout.{Layout, text, reading, Has, loose}
 use Rattle.byte_layouts.specs.Held.{Held, at_in, IsBytes}
@@ -64,6 +64,8 @@ read_cut {A} l bytes missing x fits has e some = by_read (reading l (first_place
     by_read (Ok y) read = absurd (left y.0 y.1 read)
     by_read (Err Truncated) read = refl
     by_read (Err (BadField place)) read = absurd (never (BadField place) read (λ q. absurd cc))
+    by_read (Err NotHead) read = absurd (never NotHead read (λ q. absurd cc))
+    by_read (Err (Version n)) read = absurd (never (Version n) read (λ q. absurd cc))
     by_read (Err OutOfMemory) read = absurd (never OutOfMemory read (λ q. absurd cc))
 
 read_behind : {A : Type 0} (l : Layout A) (x : A) (more : List ℕ) → Has l x → 0 < length more → whole l (text l x ++ more) ≡ Err (BadField (length (text l x)))
@@ -93,6 +95,8 @@ pub fails_whole : {A : Type 0} (l : Layout A) (fault : FieldFault) (fed : List �
 unfolding whole
 fails_whole l OutOfMemory fed e = tt
 fails_whole {A} l Truncated fed e = ap (λ (z : Result (A × At) FieldFault). followed {B = A} z ended) e
+fails_whole {A} l NotHead fed e = ap (λ (z : Result (A × At) FieldFault). followed {B = A} z ended) e
+fails_whole {A} l (Version n) fed e = ap (λ (z : Result (A × At) FieldFault). followed {B = A} z ended) e
 fails_whole {A} l (BadField place) fed e = ap (λ (z : Result (A × At) FieldFault). followed {B = A} z ended) e
 
 pub told_ended : {A : Type 0} (l : Layout A) (x : A) (kept : ℕ) (h : Held) (fed : List ℕ) → kept ≡ 1 → Tells (reading l) x kept h fed → length h.rest ≡ 0 → whole l fed ≡ Ok x

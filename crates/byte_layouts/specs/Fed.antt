@@ -39,8 +39,8 @@ pub record HasEnded {Y : Type 0} (whole rest : Reader Y) (kept : ℕ) (h : Held)
 abbrev pub FedIn : {Y : Type 0} → Stage → Reader Y → Reader Y → ℕ → Held → List ℕ → Type 0
 FedIn Open whole rest kept h fed = Keeps h fed [] × Comes whole rest (at_in h) [] fed
 FedIn AtEnd whole rest kept h fed = HasEnded whole rest kept h fed
-FedIn (Faulty place) whole rest kept h fed =
-    (tail : List ℕ) → whole (first_place (fed ++ tail)) ≡ Err (BadField place)
+FedIn (Faulty fault) whole rest kept h fed =
+    (tail : List ℕ) → whole (first_place (fed ++ tail)) ≡ Err fault
 
 abbrev pub IsFed : {Y : Type 0} → Stage → Reader Y → Reader Y → ℕ → Held → List ℕ → Type 0
 IsFed stage whole rest kept h fed = IsBytes fed × FedIn stage whole rest kept h fed
@@ -49,20 +49,20 @@ IsFed stage whole rest kept h fed = IsBytes fed × FedIn stage whole rest kept h
 abbrev pub is_over_at : Stage → Bool → Bool
 is_over_at Open over = true
 is_over_at AtEnd over = over
-is_over_at (Faulty place) over = true
+is_over_at (Faulty fault) over = true
 
 -- nothing more is read before more bytes come
 abbrev pub IsSettled : {Y : Type 0} → Stage → Reader Y → Held → Type 0
 IsSettled Open rest h = rest (at_in h) ≡ Err Truncated
 IsSettled AtEnd rest h = Unit {0}
-IsSettled (Faulty place) rest h = Unit {0}
+IsSettled (Faulty fault) rest h = Unit {0}
 
 -- How many of so many bytes are kept: all as long as there is something to read, none behind a fault, and behind the end no
 -- more than so many.
 abbrev pub IsWanted : Stage → ℕ → List ℕ → ℕ → ℕ → Type 0
 IsWanted Open kept rest size count = count ≡ size
 IsWanted AtEnd kept rest size count = ((count ≡ size) ⊎ (kept ≤ length rest + count)) × (kept ≤ length rest → count ≡ 0)
-IsWanted (Faulty place) kept rest size count = count ≡ 0
+IsWanted (Faulty fault) kept rest size count = count ≡ 0
 
 -- what a reading tells at its end, and the bytes that are left
 pub record Tells {Y : Type 0} (whole : Reader Y) (y : Y) (kept : ℕ) (h : Held) (fed : List ℕ) : Type 0 where

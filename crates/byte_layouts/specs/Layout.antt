@@ -3,7 +3,7 @@
 use Rattle.std.specs.Prelude.{◌≡◌, ℕ, ◌^◌, ◌<◌, Bool, true, IsTrue, List, [], ◌∷◌, ◌++◌, length}
 use Rattle.std.specs.List.{AllByRecursion}
 use Rattle.std.specs.Int.{Width, w8, w16, w32, w64, to_be_bytes}
-use Rattle.byte_layouts.specs.Readers.{Reader, ◌>>=◌, gives, number, counted, tested, chain, with_last}
+use Rattle.byte_layouts.specs.Readers.{Reader, ◌>>=◌, gives, number, counted, tested, chain, with_last, head_at, version_at}
 
 -- how many bytes a number has
 pub data Size : Type 0 where
@@ -22,6 +22,10 @@ limit Four = 2 ^ 32
 limit Eight = 2 ^ 64
 
 pub data Layout : Type 0 → Type 1 where
+  -- what each text begins with: a fault of its own is that it begins otherwise
+  Head : List ℕ → Layout (Unit {0})
+  -- the version of the format, in 16 bits: a fault of its own is that it is another one
+  Version : ℕ → Layout (Unit {0})
   -- a number that passes a test, its high byte first
   Number : Size → (ℕ → Bool) → Layout ℕ
   -- so many bytes that pass a test
@@ -58,6 +62,8 @@ texts each next s [] = []
 texts each next s (x ∷ xs) = each s x ++ texts each next (next s x) xs
 
 abbrev pub text : {A : Type 0} → Layout A → A → List ℕ
+text (Head head) u = head
+text (Version version) u = number_text w16 version
 text (Number size ok) n = number_text (width size) n
 text (Bytes count ok) bytes = bytes
 text (Sized size ok fits) bytes = number_text (width size) (length bytes) ++ bytes
@@ -70,6 +76,8 @@ text (Made make part there back a) y = text a (part y)
 -- ---- what bytes say
 
 abbrev pub reading : {A : Type 0} → Layout A → Reader A
+reading (Head head) = head_at head >>= (λ bytes. gives tt)
+reading (Version version) = version_at version >>= (λ n. gives tt)
 reading (Number size ok) = tested ok (number (width size))
 reading (Bytes count ok) = tested ok (counted count)
 reading (Sized size ok fits) = tested ok (number (width size)) >>= (λ count. tested fits (counted count))
@@ -93,6 +101,8 @@ abbrev pub IsNumber : Size → (ℕ → Bool) → ℕ → Type 0
 IsNumber size ok n = (n < limit size) × IsTrue (ok n)
 
 abbrev pub Has : {A : Type 0} → Layout A → A → Type 0
+Has (Head head) u = Unit {0}
+Has (Version version) u = version < 2 ^ 16
 Has (Number size ok) n = IsNumber size ok n
 Has (Bytes count ok) bytes = ((length bytes ≡ count) × AreBytes bytes) × IsTrue (ok bytes)
 Has (Sized size ok fits) bytes = IsNumber size ok (length bytes) × (AreBytes bytes × IsTrue (fits bytes))
@@ -103,6 +113,8 @@ Has (Made make part there back a) y = Has a (part y)
 
 -- No list of a value is longer than the number before it can tell.
 abbrev pub Fits : {A : Type 0} → Layout A → A → Type 0
+Fits (Head head) u = Unit {0}
+Fits (Version version) u = Unit {0}
 Fits (Number size ok) n = Unit {0}
 Fits (Bytes count ok) bytes = Unit {0}
 Fits (Sized size ok fits) bytes = length bytes < limit size
@@ -113,6 +125,8 @@ Fits (Made make part there back a) y = Fits a (part y)
 
 -- the same fields with no test
 abbrev pub loose : {A : Type 0} → Layout A → Layout A
+loose (Head head) = Head head
+loose (Version version) = Version version
 loose (Number size ok) = Any size
 loose (Bytes count ok) = Bytes count (λ bytes. true)
 loose (Sized size ok fits) = Sized size (λ n. true) (λ bytes. true)

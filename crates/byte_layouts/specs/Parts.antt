@@ -35,8 +35,8 @@ abbrev pub Takes : {X Y : Type 0} → (X → Y) → Reader Y → Result X FieldF
 Takes view reader (Ok x) old new = Taken reader (view x) old new
 Takes view reader (Err OutOfMemory) old new = Unit {0}
 Takes view reader (Err Truncated) old new = Missed reader old new
-Takes view reader (Err (BadField place)) old new =
-    (tail : List ℕ) → reader (longer (at_in old) tail) ≡ Err (BadField place)
+Takes view reader (Err fault) old new =
+    (tail : List ℕ) → reader (longer (at_in old) tail) ≡ Err fault
 
 -- ---- a part
 
@@ -59,8 +59,8 @@ GoesOn over (Ok u) before after old new = Further before after old new × IsRead
 GoesOn over (Err OutOfMemory) before after old new = Unit {0}
 GoesOn over (Err Truncated) before after old new =
     Further before after old new × (after (at_in new) ≡ Err Truncated)
-GoesOn over (Err (BadField place)) before after old new =
-    (tail : List ℕ) → before (longer (at_in old) tail) ≡ Err (BadField place)
+GoesOn over (Err fault) before after old new =
+    (tail : List ℕ) → before (longer (at_in old) tail) ≡ Err fault
 
 -- ---- one value, many values, one part and another
 
@@ -80,3 +80,10 @@ rest_of_list counts each true left front = rest_of_elements each left front
 
 abbrev pub both : {A B : Type 0} → Reader A → Reader B → Reader (A × B)
 both a b = a >>= (λ x. b >>= (λ y. gives (x, y)))
+
+-- what is still read of a value and the values behind it, as many as it tells
+abbrev pub rest_of_measured : {X Y A : Type 0} → (X → Y) → (Y → ℕ) → Reader Y → (List A → Reader A) → Option X → ℕ → List A → Reader (Y × List A)
+rest_of_measured view count reader each None left front =
+    reader >>= (λ y. rest_of_elements each (count y) front >>= (λ xs. gives (y, xs)))
+rest_of_measured view count reader each (Some x) left front =
+    rest_of_elements each left front >>= (λ xs. gives (view x, xs))

@@ -1,8 +1,9 @@
 -- Readers of fields: each reads from the front of the bytes that are left.
-use Rattle.std.specs.Prelude.{◌≡◌, ℕ, zero, suc, ◌+◌, Bool, true, List, [], ◌∷◌, ◌++◌, length, take, drop, Result, Ok, Err, nat_lt, if◌then◌else◌}
-use Rattle.std.specs.Int.{Width, byte_len, from_be_bytes}
+use Rattle.std.specs.Prelude.{◌≡◌, ℕ, zero, suc, ◌+◌, Bool, true, List, [], ◌∷◌, ◌++◌, length, take, drop, Result, Ok, Err, nat_lt, ◌==◌, if◌then◌else◌}
+use Rattle.std.specs.Str.{bytes_eq}
+use Rattle.std.specs.Int.{Width, w16, byte_len, from_be_bytes}
 use Rattle.byte_layouts.specs.declared.fault.FieldFault.{FieldFault}
-use Rattle.byte_layouts.specs.declared.fault.FieldFault.TheVariants.{BadField, Truncated, OutOfMemory}
+use Rattle.byte_layouts.specs.declared.fault.FieldFault.TheVariants.{NotHead, Version, BadField, Truncated, OutOfMemory}
 
 -- the bytes that are left, and how many stand before them
 pub record At : Type 0 where
@@ -42,13 +43,32 @@ counted n at = if nat_lt (length at.rest) n then Err Truncated else Ok (take n a
 unfoldable pub number : Width → Reader ℕ
 number w = counted (byte_len w) >>= (λ bytes. gives (from_be_bytes w bytes))
 
--- what passes, or else the fault of a field at that place
-abbrev pub passed : {A : Type 0} → ℕ → Bool → A → At → Result (A × At) FieldFault
-passed place ok x next = if ok then Ok (x, next) else Err (BadField place)
+-- what passes, or else a fault
+abbrev pub passed_or : {A : Type 0} → FieldFault → Bool → A → At → Result (A × At) FieldFault
+passed_or fault ok x next = if ok then Ok (x, next) else Err fault
 
--- a field that passes a test
+-- a field that passes a test, or else a fault that may name its place and what it holds
+abbrev pub tested_or : {A : Type 0} → (ℕ → A → FieldFault) → (A → Bool) → Reader A → Reader A
+tested_or fault ok reader = λ at. followed (reader at) (λ x next. passed_or (fault at.place x) (ok x) x next)
+
+-- a field that can hold what it holds
 abbrev pub tested : {A : Type 0} → (A → Bool) → Reader A → Reader A
-tested ok reader = λ at. followed (reader at) (λ x next. passed at.place (ok x) x next)
+tested ok reader = tested_or (λ place x. BadField place) ok reader
+
+-- whether the first bytes, or all there are, begin as these
+abbrev pub begins : List ℕ → List ℕ → Bool
+begins head bytes = bytes_eq (take (length head) bytes) (take (length bytes) head)
+
+abbrev pub head_if : List ℕ → Bool → Reader (List ℕ)
+head_if head ok = λ at. if ok then counted (length head) at else Err NotHead
+
+-- what each such text begins with
+unfoldable pub head_at : List ℕ → Reader (List ℕ)
+head_at head at = head_if head (begins head at.rest) at
+
+-- the version of the format
+unfoldable pub version_at : ℕ → Reader ℕ
+version_at version = tested_or (λ place n. Version n) (λ n. n == version) (number w16)
 
 -- so many, one behind the other; what each can be may depend on those before it
 abbrev pub chain : {A S : Type 0} → (S → Reader A) → (S → A → S) → ℕ → S → Reader (List A)

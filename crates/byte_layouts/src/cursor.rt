@@ -2,7 +2,8 @@
 ghost use Rattle.std.specs.Prelude.{◌≡◌, ◌+◌, ◌<◌, ◌^◌, ◌==◌, nat_le, nat_lt, ◌&&◌, length, IfOk};
 ghost use Rattle.std.specs.Int.{w8, w16, w32, w64};
 ghost use Rattle.byte_layouts.specs.Held.{IsBytes};
-ghost use Rattle.byte_layouts.specs.Readers.{At, Reads, at_of, number, counted, tested};
+ghost use Rattle.byte_layouts.specs.Layout.{Head, Version, reading};
+ghost use Rattle.byte_layouts.specs.Readers.{begins, At, Reads, at_of, number, counted, tested};
 
 use crate::fault::FieldFault;
 use std::marker::Model;
@@ -176,4 +177,36 @@ impl<'a> Cursor<'a> {
         }
         Ok(n)
     }
+
+    /// What each text begins with.
+    #[tactic(auto, unfolding(crate::specs::Readers::head_at, crate::specs::Readers::counted))]
+    pub fn head(&mut self, head: &[u8]) -> Result<(), FieldFault>
+        ensures { Reads (λ u. u) result self.new (reading (Head head.now) self.old) }
+    {
+        if !begins(head, self.rest) {
+            return Err(FieldFault::NotHead);
+        }
+        let _ = self.bytes(head.len())?;
+        Ok(())
+    }
+
+    /// The version of the format.
+    #[tactic(auto, unfolding(crate::specs::Readers::version_at))]
+    pub fn version(&mut self, version: u16) -> Result<(), FieldFault>
+        ensures { Reads (λ u. u) result self.new (reading (Version version) self.old) }
+    {
+        let found = self.u16()?;
+        if found != version {
+            return Err(FieldFault::Version(found));
+        }
+        Ok(())
+    }
+}
+
+// Whether bytes begin so, as far as they go.
+fn begins(head: &[u8], bytes: &[u8]) -> bool
+    ensures { result ≡ begins head.now bytes.now }
+{
+    let n = bytes.len().min(head.len());
+    bytes[..n] == head[..n]
 }

@@ -6,6 +6,10 @@ use std::alloc::{AllocError, AllocFailed};
 /// Why bytes are not read as a layout has them: the first fault of them from the left, or no memory for what they say.
 #[derive(Clone, Copy, Debug, PartialEq)]
 pub enum FieldFault {
+    /// They do not begin as each such text does.
+    NotHead,
+    /// They are of another version of the format.
+    Version(u16),
     /// A field has a value that it cannot have, or a byte stands behind the end. The place is the field's first byte.
     BadField(usize),
     /// The bytes end before a field does.

@@ -57,7 +57,7 @@ impl<R: ListFormat> Format for CountOf<R> {
 }
 
 // Takes so many elements behind these.
-fn take_elements<R: Format>(
+pub fn take_elements<R: Format>(
     alloc: Global,
     pending: &mut Pending,
     items: &mut Vec<R::Item>,

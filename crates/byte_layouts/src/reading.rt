@@ -63,8 +63,16 @@ impl<P: Part> Reading<P> {
                     Ok(())
                 }
                 Err(FieldFault::Truncated) => Ok(()),
+                Err(FieldFault::NotHead) => {
+                    self.stage = Stage::Faulty(FieldFault::NotHead);
+                    Ok(())
+                }
+                Err(FieldFault::Version(n)) => {
+                    self.stage = Stage::Faulty(FieldFault::Version(n));
+                    Ok(())
+                }
                 Err(FieldFault::BadField(place)) => {
-                    self.stage = Stage::Faulty(place);
+                    self.stage = Stage::Faulty(FieldFault::BadField(place));
                     Ok(())
                 }
                 Err(FieldFault::OutOfMemory) => Err(AllocError),
@@ -106,7 +114,7 @@ impl<P: Part> Reading<P> {
         match self.stage {
             Stage::AtEnd => Ok((self.part.finish(), self.pending)),
             Stage::Open => Err(FieldFault::Truncated),
-            Stage::Faulty(place) => Err(FieldFault::BadField(place)),
+            Stage::Faulty(fault) => Err(fault),
         }
     }
 

@@ -1,3 +1,5 @@
+use crate::fault::FieldFault;
+
 /// How far a reading of pieces is.
 #[derive(Clone, Copy)]
 pub enum Stage {
@@ -5,6 +7,6 @@ pub enum Stage {
     Open,
     /// All was read.
     AtEnd,
-    /// The field at that place has a value that it cannot have.
-    Faulty(usize),
+    /// There was a fault.
+    Faulty(FieldFault),
 }
