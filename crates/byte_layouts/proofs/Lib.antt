@@ -8,3 +8,4 @@ pub mod PartLaws
 pub mod FedLaws
 pub mod WholeLaws
 pub mod WriteLaws
+pub mod Loops

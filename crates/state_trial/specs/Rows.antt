@@ -1,10 +1,14 @@
--- The rows of the trial's text: each section's fields in their order.
-use Rattle.std.specs.Prelude.{ℕ, Bool, ◌&&◌, ◌-◌, nat_le, List, length, slice_get, Option, Some, None, refl}
+-- The rows of a state file: each section's fields in their order, each with what it can hold.
+use Rattle.std.specs.Prelude.{ℕ, Bool, true, ◌+◌, ◌-◌, ◌*◌, ◌&&◌, ◌==◌, nat_le, List, length, slice_get, codes, Option, Some, None, refl}
+use Rattle.std.specs.Str.{is_utf8}
+use Rattle.unit_trait.specs.declared.kind.Kind.{Kind}
 use Rattle.saved_session.specs.declared.saved.SavedCpu.{SavedCpu}
+use Rattle.saved_session.specs.declared.saved.SavedEvent.{SavedEvent}
 use Rattle.saved_session.specs.declared.saved.SavedSend.{SavedSend}
-use Rattle.state_trial.specs.declared.trial.Trial.{Trial}
-use Rattle.saved_session.specs.Ranges.{is_flag, is_size, is_address, is_time, is_key_count, most_sends, last_send}
-use Rattle.byte_layouts.specs.Layout.{Layout, One, Two, Eight, Number, Any, Many, Listed, Made, ◌&◌}
+use Rattle.saved_session.specs.Parts.{UnitPart, FilePart, BreakPart, ExpectPart, State}
+use Rattle.saved_session.specs.Ranges.{is_flag, is_size, is_address, is_time, is_key_count, kind_at, standard_kinds, is_position, register_count, holds_value, most_events, can_wait, comes_last, FilePlace, takes_file_at, is_next_unit, is_read_only_of, is_name_length, is_file_length, most_breaks, longest_actions, most_expects, longest_text, is_text_length, is_expect_count, most_sends, last_send, has_no_line_feed}
+use Rattle.saved_session.specs.Order.{place_of}
+use Rattle.byte_layouts.specs.Layout.{Layout, One, Two, Four, Eight, Head, Version, Number, Any, Bytes, Sized, Many, Listed, Then, Made, ◌&◌}
 
 -- ---- the processor
 
@@ -58,18 +62,145 @@ cpu_of v = record {
 abbrev pub cpu_fields : SavedCpu → CpuFields
 cpu_fields c = (registers_in c, (switches_in c, times_in c))
 
-abbrev pub cpu_layout : Layout SavedCpu
+unfoldable pub cpu_layout : Layout SavedCpu
 cpu_layout = Made cpu_of cpu_fields (λ x. refl) (λ y. refl) (register_rows & switch_rows & time_rows)
+
+abbrev pub word_count : SavedCpu → ℕ
+word_count c = 1024 * c.size_k
+
+-- ---- the units
+
+abbrev pub register_layout : Kind → List ℕ → Layout ℕ
+register_layout kind before = Number Four (holds_value kind (length before))
+
+-- as many registers as the kind has
+unfoldable pub registers_layout : Kind → Layout (List ℕ)
+registers_layout kind = Listed One (λ n. n == register_count kind) (register_layout kind)
+
+abbrev pub unit_of : ℕ × List ℕ → UnitPart
+unit_of v = record { position = v.0; registers = v.1 }
+
+abbrev pub unit_fields : UnitPart → ℕ × List ℕ
+unit_fields u = (u.position, u.registers)
+
+-- the unit behind these
+abbrev pub unit_layout : List UnitPart → Layout UnitPart
+unit_layout before =
+    Made unit_of unit_fields (λ x. refl) (λ y. refl)
+    (Then (Number One (λ n. n == length before)) (λ position. registers_layout (kind_at position)))
+
+abbrev pub all_units : ℕ → Bool
+all_units n = n == standard_kinds
+
+-- ---- the events
+
+abbrev pub event_of : ℕ × (ℕ × ℕ) → SavedEvent
+event_of v = record { position = v.0; unit = v.1.0; remaining = v.1.1 }
+
+abbrev pub event_fields : SavedEvent → ℕ × (ℕ × ℕ)
+event_fields e = (e.position, (e.unit, e.remaining))
+
+-- an event behind these
+abbrev pub event_layout : List SavedEvent → Layout SavedEvent
+event_layout before =
+    Made event_of event_fields (λ x. refl) (λ y. refl)
+    (Then (Number One is_position) (λ position. Number One (can_wait before position) & Number Four (comes_last before)))
+
+abbrev pub few_events : ℕ → Bool
+few_events n = nat_le n most_events
+
+-- ---- the attached files
+
+abbrev pub place_after : Option FilePart → FilePlace
+place_after None = place_of 0 0
+place_after (Some f) = place_of f.position (f.unit + 1)
+
+-- from where on the next file can be
+abbrev pub place_behind : List FilePart → FilePlace
+place_behind before = place_after (slice_get before (length before - 1))
+
+abbrev pub any : {A : Type 0} → A → Bool
+any x = true
+
+abbrev pub FileFields : Type 0
+FileFields = ℕ × (ℕ × (ℕ × (List ℕ × (ℕ × List ℕ))))
+
+abbrev pub file_of : FileFields → FilePart
+file_of v = record { position = v.0; unit = v.1.0; read_only = v.1.1.0; name = v.1.1.1.0; size = v.1.1.1.1.0; digest = v.1.1.1.1.1 }
+
+abbrev pub file_fields : FilePart → FileFields
+file_fields f = (f.position, (f.unit, (f.read_only, (f.name, (f.size, f.digest)))))
+
+abbrev pub file_rows : FilePlace → ℕ → Layout (ℕ × (ℕ × (List ℕ × (ℕ × List ℕ))))
+file_rows least position =
+    Number One (is_next_unit least position)
+    & Number One (is_read_only_of (kind_at position))
+    & Sized Two is_name_length is_utf8
+    & Number Eight (is_file_length (kind_at position))
+    & Bytes 32 any
+
+-- a file behind these
+abbrev pub file_layout : List FilePart → Layout FilePart
+file_layout before =
+    Made file_of file_fields (λ x. refl) (λ y. refl)
+    (Then (Number One (takes_file_at (place_behind before))) (file_rows (place_behind before)))
+
+-- ---- breaks
+
+abbrev pub actions_layout : Layout (List ℕ)
+actions_layout = Sized Two (λ n. nat_le n longest_actions) has_no_line_feed
+
+abbrev pub address_after : Option BreakPart → ℕ
+address_after None = 0
+address_after (Some b) = b.address + 1
+
+-- from which address on the next break can be
+abbrev pub address_behind : List BreakPart → ℕ
+address_behind before = address_after (slice_get before (length before - 1))
+
+abbrev pub break_of : ℕ × (ℕ × List ℕ) → BreakPart
+break_of v = record { address = v.0; count = v.1.0; actions = v.1.1 }
+
+abbrev pub break_fields : BreakPart → ℕ × (ℕ × List ℕ)
+break_fields b = (b.address, (b.count, b.actions))
+
+-- a break behind these
+abbrev pub break_layout : List BreakPart → Layout BreakPart
+break_layout before =
+    Made break_of break_fields (λ x. refl) (λ y. refl)
+    (Number Two (λ a. nat_le (address_behind before) a && is_address a) & Any Four & actions_layout)
+
+abbrev pub few_breaks : ℕ → Bool
+few_breaks n = nat_le n most_breaks
+
+-- ---- texts that are waited for
+
+abbrev pub expect_of : ℕ × (List ℕ × List ℕ) → ExpectPart
+expect_of v = record { count = v.0; text = v.1.0; actions = v.1.1 }
+
+abbrev pub expect_fields : ExpectPart → ℕ × (List ℕ × List ℕ)
+expect_fields e = (e.count, (e.text, e.actions))
+
+abbrev pub expect_layout : Layout ExpectPart
+expect_layout =
+    Made expect_of expect_fields (λ x. refl) (λ y. refl)
+    (Number Four is_expect_count & Sized One is_text_length any & actions_layout)
+
+abbrev pub few_expects : ℕ → Bool
+few_expects n = nat_le n most_expects
+
+abbrev pub tail_layout : Layout (List ℕ)
+tail_layout = Sized One (λ n. nat_le n longest_text) any
 
 -- ---- bytes that are sent
 
--- the time of the last one
-abbrev pub time_in : Option SavedSend → ℕ
-time_in None = 0
-time_in (Some s) = s.time
+abbrev pub time_after : Option SavedSend → ℕ
+time_after None = 0
+time_after (Some s) = s.time
 
+-- from when on the next byte can be sent
 abbrev pub time_behind : List SavedSend → ℕ
-time_behind before = time_in (slice_get before (length before - 1))
+time_behind before = time_after (slice_get before (length before - 1))
 
 abbrev pub send_of : ℕ × ℕ → SavedSend
 send_of v = record { time = v.0; byte = v.1 }
@@ -86,16 +217,53 @@ send_layout before =
 abbrev pub few_sends : ℕ → Bool
 few_sends n = nat_le n most_sends
 
-abbrev pub sends_layout : Layout (List SavedSend)
-sends_layout = Listed Two few_sends send_layout
-
 -- ---- all of it
 
-abbrev pub State : Type 0
-State = SavedCpu × (ℕ × List SavedSend)
+-- what each begins with, and the version of the format
+abbrev pub head : List ℕ
+head = codes "NOVASTAT"
 
-abbrev pub state_layout : Layout State
-state_layout = cpu_layout & word_layout & sends_layout
+abbrev pub this_version : ℕ
+this_version = 1
 
-abbrev pub state_in : Trial → State
-state_in t = (t.cpu, (t.port, t.sends.items))
+abbrev pub Memory : Type 0
+Memory = SavedCpu × List ℕ
+
+abbrev pub Tables : Type 0
+Tables = List BreakPart × (List ExpectPart × (List ℕ × List SavedSend))
+
+abbrev pub Fields : Type 0
+Fields = Unit {0} × (Unit {0} × (Memory × (List UnitPart × (List SavedEvent × (List FilePart × (ℕ × Tables))))))
+
+abbrev pub state_of : Fields → State
+state_of v = record {
+  machine = record { cpu = v.1.1.0.0; words = v.1.1.0.1; units = v.1.1.1.0; agenda = v.1.1.1.1.0 };
+  files = v.1.1.1.1.1.0;
+  port = v.1.1.1.1.1.1.0;
+  watch = record { breaks = v.1.1.1.1.1.1.1.0; expects = v.1.1.1.1.1.1.1.1.0; tail = v.1.1.1.1.1.1.1.1.1.0; sends = v.1.1.1.1.1.1.1.1.1.1 };
+}
+
+abbrev pub state_fields : State → Fields
+state_fields s =
+    (tt, (tt, ((s.machine.cpu, s.machine.words), (s.machine.units, (s.machine.agenda, (s.files, (s.port,
+    (s.watch.breaks, (s.watch.expects, (s.watch.tail, s.watch.sends))))))))))
+
+abbrev pub table_rows : Layout Tables
+table_rows =
+    Listed Two few_breaks break_layout & Listed One few_expects (λ before. expect_layout) & tail_layout
+    & Listed Two few_sends send_layout
+
+abbrev pub state_rows : Layout Fields
+state_rows =
+    Head head
+    & Version this_version
+    & Then cpu_layout (λ cpu. Many (word_count cpu) (λ before. word_layout))
+    & Listed One all_units unit_layout
+    & Listed Two few_events event_layout
+    & Listed One any file_layout
+    & word_layout
+    & table_rows
+
+-- all but the digest
+unfoldable pub state_layout : Layout State
+state_layout = Made state_of state_fields (λ x. refl) (λ y. refl) state_rows

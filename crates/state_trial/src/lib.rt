@@ -1,9 +1,13 @@
-//! The trial: the sections of processor, port and sent bytes of a saved session, as layouts.
+//! The trial: a state file on layouts.
 #![tactic(auto)]
 
-pub mod formats;
-pub mod laws;
-pub mod trial;
+pub mod fault;
+pub mod file_formats;
+pub mod machine_formats;
+pub mod state_reader;
+pub mod watch_formats;
+pub mod writing;
 
-pub use laws::trial_texts_are_read;
-pub use trial::{Trial, read_trial, write_trial};
+pub use fault::StateFault;
+pub use state_reader::StateReader;
+pub use writing::write_state;

@@ -1,0 +1,144 @@
+// A state file that is read as it comes.
+ghost use Rattle.std.specs.Prelude.{◌≡◌, ◌≤◌, ◌++◌, List, [], Ok, Err, IfOk, IsErr, OnErr, OnOk, length, true, false};
+ghost use Rattle.state_trial.specs.declared.fault.StateFault.TheVariants.{OutOfMemory};
+ghost use Rattle.saved_session.specs.Parts.{State, state_in};
+ghost use Rattle.saved_session.specs.Valid.{Valid, Fits};
+ghost use Rattle.sha2.specs.Hashers.{Holds256};
+ghost use Rattle.sha2.specs.Sha256.{sha256};
+ghost use Rattle.byte_layouts.specs.Readers.{counted};
+ghost use Rattle.byte_layouts.specs.Held.{at_in};
+ghost use Rattle.state_trial.specs.Text.{text};
+ghost use Rattle.state_trial.specs.Reading.{then_state, compared, reading};
+ghost use Rattle.state_trial.specs.Gives.{Gives};
+ghost use Rattle.state_trial.specs.Pieces.{IsFed, HasFailed};
+
+use crate::fault::StateFault;
+use crate::file_formats::FileFormat;
+use crate::machine_formats::{
+    CpuFormat, EventFormat, HeadFormat, UnitFormat, VersionFormat, WordFormat,
+};
+use crate::watch_formats::{BreakFormat, ExpectFormat, SendFormat, TailFormat};
+use byte_layouts::{Both, Elements, Measured, One, Pending, Reading};
+use saved_session::Saved;
+use std::alloc::{AllocError, Global};
+
+/// How many bytes are kept behind the last row: the digest, and one that stands behind the end.
+const KEPT: usize = 33;
+
+type Tables = Both<
+    Elements<BreakFormat>,
+    Both<Elements<ExpectFormat>, Both<One<TailFormat>, Elements<SendFormat>>>,
+>;
+
+type Machine = Both<
+    Measured<CpuFormat, WordFormat>,
+    Both<
+        Elements<UnitFormat>,
+        Both<Elements<EventFormat>, Both<Elements<FileFormat>, Both<One<WordFormat>, Tables>>>,
+    >,
+>;
+
+/// The parts of a state file, in their order.
+pub type Parts = Both<One<HeadFormat>, Both<One<VersionFormat>, Machine>>;
+
+/// Reads a state file that comes in pieces. It keeps what the file says so far, and of the file's bytes only those that
+/// came and are not read yet: at most the last piece, of 4096 bytes, and 582 bytes before it, since the longest record,
+/// a text that is waited for with its actions, has 583.
+#[derive(Drop)]
+pub struct StateReader {
+    reading: Reading<Parts>,
+    failed: bool,
+}
+
+impl StateReader {
+    /// No byte has come.
+    pub fn new(alloc: Global) -> Result<StateReader, AllocError>
+        ensures { IfOk result (λ reader. IsFed reader []) }
+    {
+        let reading = Reading::new(alloc, KEPT)?;
+        Ok(StateReader {
+            reading,
+            failed: false,
+        })
+    }
+
+    /// Takes the next piece, of at most 4096 bytes, which come behind those that were fed before. Of the faults of what
+    /// came so far nothing is said before `finish`. The error is want of memory alone: the reading is over then, each
+    /// further piece is refused too, and `finish` answers `OutOfMemory`.
+    pub fn feed(&mut self, piece: &[u8]) -> Result<(), AllocError>
+        requires piece { length piece.now ≤ 4096 }
+        // These bytes come behind those that were fed before.
+        ensures fed { OnOk result ((fed : List ℕ) → IsFed self.old fed → IsFed self.new (fed ++ piece.now)) }
+        // From then on nothing is read, and each further piece is refused.
+        ensures wanting { OnErr result (HasFailed self.new) }
+        ensures ever { HasFailed self.old → HasFailed self.new }
+        ensures refused { HasFailed self.old → IsErr result }
+    {
+        if self.failed {
+            return Err(AllocError);
+        }
+        match self.reading.feed(piece) {
+            Ok(()) => Ok(()),
+            Err(AllocError) => {
+                self.failed = true;
+                Err(AllocError)
+            }
+        }
+    }
+
+    /// What all pieces say, one behind the other, as `read_state` has it.
+    pub fn finish(self) -> Result<Saved, StateFault>
+        // What is read is valid, and the bytes are its text.
+        ensures found { (fed : List ℕ) → IsFed self fed
+            → IfOk result (λ s. Valid (state_in s) × (fed ≡ text (state_in s))) }
+        // The text of what is valid is read, unless memory runs out.
+        ensures only { (fed : List ℕ) → IsFed self fed
+            → (s : State) → Valid s → fed ≡ text s → Gives state_in result (Ok s) }
+        // What is read can be written again.
+        ensures fits { (fed : List ℕ) → IsFed self fed → IfOk result (λ s. Fits (state_in s)) }
+        // Other bytes have their one fault.
+        ensures exact { (fed : List ℕ) → IsFed self fed → Gives state_in result (reading fed) }
+        // Where memory ran out before, nothing is read.
+        ensures wanting { HasFailed self → result ≡ Err OutOfMemory }
+    {
+        if self.failed {
+            return Err(StateFault::OutOfMemory);
+        }
+        let (parts, pending) = self.reading.finish()?;
+        let (_, (_, ((cpu, words), (units, (agenda, (attachments, (port, tables))))))) = parts;
+        let (breaks, (expects, (tail, sends))) = tables;
+        let saved = Saved {
+            cpu,
+            words,
+            units,
+            agenda,
+            attachments,
+            port,
+            breaks,
+            expects,
+            tail,
+            sends,
+        };
+        sealed(pending, saved)
+    }
+}
+
+// The digest behind what was read, and nothing behind it.
+fn sealed(pending: Pending, saved: Saved) -> Result<Saved, StateFault>
+    ensures { (m : List ℕ) → Holds256 pending.hasher m
+        → Gives state_in result (then_state (counted 32 (at_in pending)) (compared (state_in saved) (sha256 m))) }
+{
+    let mut cursor = pending.cursor();
+    let mut kept = [0; 32];
+    kept.copy_from_slice(cursor.bytes(32)?);
+    let place = cursor.place();
+    let is_over = cursor.is_at_end();
+    let found = pending.digest();
+    if kept != found {
+        return Err(StateFault::BadDigest { kept, found });
+    }
+    if !is_over {
+        return Err(StateFault::BadField(place));
+    }
+    Ok(saved)
+}

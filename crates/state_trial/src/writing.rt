@@ -1,0 +1,55 @@
+ghost use Rattle.std.specs.Prelude.{◌≡◌, ◌++◌, OnOk, IfOk};
+ghost use Rattle.saved_session.specs.Parts.{state_in};
+ghost use Rattle.saved_session.specs.Valid.{Fits};
+ghost use Rattle.byte_layouts.specs.Layout.{text as text_of};
+ghost use Rattle.state_trial.specs.Rows.{state_fields, table_rows};
+ghost use Rattle.state_trial.specs.Text.{body, text};
+
+use crate::file_formats::FileFormat;
+use crate::machine_formats::{EventFormat, UnitFormat, WordFormat, write_cpu};
+use crate::watch_formats::{BreakFormat, ExpectFormat, SendFormat, TailFormat};
+use byte_layouts::{Writes, put_u16, write_list, write_plain};
+use saved_session::Saved;
+use sha2::{Digest, Sha256};
+use std::alloc::{AllocError, Global};
+
+// What a run watches.
+fn write_tables(saved: &Saved, out: &mut Vec<u8>) -> Result<(), AllocError>
+    requires { Fits (state_in saved.now) }
+    ensures { OnOk result (out.new.items ≡ out.old.items ++ text_of table_rows (state_fields (state_in saved.now)).1.1.1.1.1.1.1) }
+{
+    write_list::<BreakFormat>(&saved.breaks, out)?;
+    write_list::<ExpectFormat>(&saved.expects, out)?;
+    TailFormat::write(&saved.tail, out)?;
+    write_list::<SendFormat>(&saved.sends, out)
+}
+
+// All rows.
+#[tactic(auto, unfolding(crate::specs::Text::body, crate::specs::Rows::state_layout))]
+fn write_rows(saved: &Saved, out: &mut Vec<u8>) -> Result<(), AllocError>
+    requires { Fits (state_in saved.now) }
+    ensures { OnOk result (out.new.items ≡ out.old.items ++ body (state_in saved.now)) }
+{
+    out.extend_from_slice(b"NOVASTAT")?;
+    put_u16(out, 1)?;
+    write_cpu(&saved.cpu, out)?;
+    write_plain::<WordFormat>(&saved.words, out)?;
+    write_list::<UnitFormat>(&saved.units, out)?;
+    write_list::<EventFormat>(&saved.agenda, out)?;
+    write_list::<FileFormat>(&saved.attachments, out)?;
+    put_u16(out, saved.port)?;
+    write_tables(saved, out)
+}
+
+/// Writes a saved session as a state file. Nothing but want of memory can refuse it.
+#[tactic(auto, unfolding(crate::specs::Text::text))]
+pub fn write_state(alloc: Global, saved: &Saved) -> Result<Vec<u8>, AllocError>
+    requires { Fits (state_in saved.now) }
+    ensures { IfOk result (λ v. v.items ≡ text (state_in saved.now)) }
+{
+    let mut out = Vec::new(alloc);
+    write_rows(saved, &mut out)?;
+    let digest = Sha256::digest(out.as_slice());
+    out.extend_from_slice(&digest)?;
+    Ok(out)
+}
