@@ -1,20 +1,23 @@
 -- What the rows ask of a saved session is that it is valid, in other words: there, and back.
 use Rattle.std.proofs.Common.{◌≡◌, ℕ, ◌+◌, ◌-◌, ◌*◌, ◌^◌, ◌<◌, Bool, true, List, [], ◌∷◌, ◌++◌, length, refl, sym, ap, subst, ◌∙◌, arith, eq-eqb}
-use Rattle.std.specs.Prelude.{nat_le, nat_lt, ◌&&◌, ◌==◌, Option, Some, slice_get}
+use Rattle.std.specs.Prelude.{nat_le, nat_lt, not, ◌&&◌, ◌||◌, ◌==◌, ◌≤◌, Option, Some, slice_get}
 use Rattle.std.specs.List.{AllByRecursion}
-use Rattle.std.proofs.lemmas.Bool.{eqb-true, and_parts, ltb-true}
+use Rattle.std.proofs.lemmas.Bool.{eqb-true, and_parts, ltb-true, leb-true}
 use Rattle.std.proofs.lemmas.List.{length-append}
 use Rattle.unit_trait.specs.declared.kind.Kind.{Kind}
+use Rattle.unit_trait.specs.declared.kind.Kind.TheVariants.{Dsk, Mta, Lpt, Ptr, Ptp, Clk, Tti, Tto, Tti1, Tto1, Qty}
+use Rattle.unit_trait.specs.Kinds.{units_of}
+use Rattle.saved_session.proofs.RegisterCounts.{few_registers}
 use Rattle.saved_session.specs.declared.saved.SavedCpu.{SavedCpu}
 use Rattle.saved_session.specs.declared.saved.SavedEvent.{SavedEvent}
 use Rattle.saved_session.specs.declared.saved.SavedSend.{SavedSend}
 use Rattle.saved_session.specs.Parts.{UnitPart, FilePart, BreakPart, ExpectPart, State}
-use Rattle.saved_session.specs.Ranges.{is_flag, is_size, is_address, is_time, is_key_count, kind_at, is_position, register_count, holds_value, can_wait, comes_last, FilePlace, last_send}
+use Rattle.saved_session.specs.Ranges.{is_flag, is_size, is_address, is_time, is_key_count, kind_at, is_position, register_count, holds_value, standard_kinds, is_free, can_wait, comes_last, FilePlace, is_read_only_of, only_writes, is_name_length, longest_file_of, is_file_length, is_next_unit, longest_actions, is_text_length, longest_text, last_send}
 use Rattle.saved_session.specs.Order.{next_number, with_event, behind_file, behind_break, behind_send}
 use Rattle.saved_session.specs.Valid.{AreBytes, AreWords, Follow as Follows, IsCpu, CanHold, IsUnit, IsEvent, IsFile, AreActions, IsBreak, IsExpect, IsSend, Valid}
 use Rattle.byte_layouts.specs.Readers.{with_last}
 use Rattle.byte_layouts.specs.Layout.{Size, limit, IsNumber, Follow, Has}
-use Rattle.state_trial.specs.Rows.{word_layout, cpu_layout, register_layout, registers_layout, unit_layout, event_layout, place_behind, file_layout, actions_layout, address_behind, break_layout, expect_layout, tail_layout, time_behind, send_layout, state_layout}
+use Rattle.state_trial.specs.Rows.{word_layout, cpu_layout, register_layout, registers_layout, unit_layout, event_layout, place_after, place_behind, file_layout, actions_layout, address_after, address_behind, break_layout, expect_layout, tail_layout, time_after, time_behind, send_layout, state_layout}
 
 -- ---- lists
 
@@ -101,3 +104,159 @@ send_to before s h = record { time = h.0.1; byte = h.1.0 }
 
 send_from : (before : List SavedSend) (s : SavedSend) → IsSend (time_behind before) s → Has (send_layout before) s
 send_from before s is = ((small_send (time_behind before) s.time is.time, is.time), (is.byte, refl))
+
+time_step : (front : List SavedSend) (s : SavedSend) → time_behind (with_last front s) ≡ behind_send (time_behind front) s
+time_step front s = ap time_after (last_is front s)
+
+-- ---- units
+
+numbers_step : {A : Type 0} (front : List A) (x : A) → length (with_last front x) ≡ next_number (length front) x
+numbers_step front x = omega (arith, length-append front (x ∷ []))
+
+unit_to : (before : List UnitPart) (u : UnitPart) → Has (unit_layout before) u → IsUnit (length before) u
+unfolding registers_layout
+unit_to before u h = record {
+  byte = h.0.0;
+  position = eqb-true u.position (length before) h.0.1;
+  all = eqb-true (length u.registers) (register_count (kind_at u.position)) h.1.0.1;
+  registers = follows_to (λ front. Has (register_layout (kind_at u.position) front)) (CanHold (kind_at u.position)) next_number (λ (front : List ℕ). length front) numbers_step (λ front x is. is) [] u.registers h.1.1;
+}
+
+below : (n m : ℕ) → n ≡ m → m < 2 ^ 8 → n < 2 ^ 8
+below n m e lt = omega (arith, e, lt)
+
+unit_from : (before : List UnitPart) (u : UnitPart) → IsUnit (length before) u → Has (unit_layout before) u
+unfolding registers_layout
+unit_from before u is = (
+  (is.byte, eq-eqb u.position (length before) is.position),
+  ((below (length u.registers) (register_count (kind_at u.position)) is.all (few_registers (kind_at u.position)), eq-eqb (length u.registers) (register_count (kind_at u.position)) is.all),
+  follows_from (λ front. Has (register_layout (kind_at u.position) front)) (CanHold (kind_at u.position)) next_number (λ (front : List ℕ). length front) numbers_step (λ front x holds. holds) [] u.registers is.registers),
+)
+
+-- ---- events
+
+small_position : (n : ℕ) → is_position n ≡ true → n < 2 ^ 8
+small_position n h = grind arith
+
+few_units : (kind : Kind) → units_of kind ≤ 64
+few_units Dsk = omega arith
+few_units Mta = omega arith
+few_units Lpt = omega arith
+few_units Ptr = omega arith
+few_units Ptp = omega arith
+few_units Clk = omega arith
+few_units Tti = omega arith
+few_units Tto = omega arith
+few_units Tti1 = omega arith
+few_units Tto1 = omega arith
+few_units Qty = omega arith
+
+pub small_unit : (kind : Kind) (unit : ℕ) (other : Bool) → (nat_lt unit (units_of kind) && other) ≡ true → unit < 2 ^ 8
+small_unit kind unit other h = under unit (units_of kind) (ltb-true unit (units_of kind) (and_parts (nat_lt unit (units_of kind)) other h).0) (few_units kind)
+  where
+    under : (n m : ℕ) → n < m → m ≤ 64 → n < 2 ^ 8
+    under n m lt le = omega (arith, lt, le)
+
+event_to : (before : List SavedEvent) (e : SavedEvent) → Has (event_layout before) e → IsEvent before e
+event_to before e h = record { position = h.0.1; unit = h.1.0.1; remaining = h.1.1.0; last = h.1.1.1 }
+
+event_from : (before : List SavedEvent) (e : SavedEvent) → IsEvent before e → Has (event_layout before) e
+event_from before e is =
+    ((small_position e.position is.position, is.position), ((small_unit (kind_at e.position) e.unit (is_free before e.position e.unit) is.unit, is.unit), (is.remaining, is.last)))
+
+-- ---- files
+
+small_read_only : (kind : Kind) (n : ℕ) → is_read_only_of kind n ≡ true → n < 2 ^ 8
+small_read_only kind n h = under n (leb-true n 1 (and_parts (is_flag n) (n == 0 || not (only_writes kind)) h).0)
+  where
+    under : (n : ℕ) → n ≤ 1 → n < 2 ^ 8
+    under n le = omega (arith, le)
+
+small_name : (n : ℕ) → is_name_length n ≡ true → n < 2 ^ 16
+small_name n h = grind arith
+
+longest : (kind : Kind) → longest_file_of kind ≤ 67108864
+longest kind = ?
+
+small_length : (kind : Kind) (n : ℕ) → is_file_length kind n ≡ true → n < 2 ^ 64
+small_length kind n h = under n (longest_file_of kind) (leb-true n (longest_file_of kind) h) (longest kind)
+  where
+    under : (n m : ℕ) → n ≤ m → m ≤ 67108864 → n < 2 ^ 64
+    under n m le most = omega (arith, le, most)
+
+file_to : (before : List FilePart) (f : FilePart) → Has (file_layout before) f → IsFile (place_behind before) f
+file_to before f h = record {
+  byte = h.0.0;
+  position = h.0.1;
+  unit = h.1.0.1;
+  read_only = h.1.1.0.1;
+  long = h.1.1.1.0.0.1;
+  name = h.1.1.1.0.1.0;
+  utf8 = h.1.1.1.0.1.1;
+  size = h.1.1.1.1.0.1;
+  digest = h.1.1.1.1.1.0.0;
+  bytes = h.1.1.1.1.1.0.1;
+}
+
+file_from : (before : List FilePart) (f : FilePart) → IsFile (place_behind before) f → Has (file_layout before) f
+file_from before f is = (
+  (is.byte, is.position),
+  ((small_unit (kind_at f.position) f.unit (nat_lt (place_behind before).position f.position || nat_le (place_behind before).unit f.unit) is.unit, is.unit),
+  ((small_read_only (kind_at f.position) f.read_only is.read_only, is.read_only),
+  (((small_name (length f.name) is.long, is.long), (is.name, is.utf8)),
+  ((small_length (kind_at f.position) f.size is.size, is.size), ((is.digest, is.bytes), refl))))),
+)
+
+place_step : (front : List FilePart) (f : FilePart) → place_behind (with_last front f) ≡ behind_file (place_behind front) f
+place_step front f = ap place_after (last_is front f)
+
+-- ---- breaks and texts
+
+small_actions : (n : ℕ) → nat_le n longest_actions ≡ true → n < 2 ^ 16
+small_actions n h = grind arith
+
+actions_to : (actions : List ℕ) → Has actions_layout actions → AreActions actions
+actions_to actions h = record { short = h.0.1; bytes = h.1.0; line = h.1.1 }
+
+actions_from : (actions : List ℕ) → AreActions actions → Has actions_layout actions
+actions_from actions is = ((small_actions (length actions) is.short, is.short), (is.bytes, is.line))
+
+small_break : (least n : ℕ) → (nat_le least n && is_address n) ≡ true → n < 2 ^ 16
+small_break least n h = grind arith
+
+break_to : (before : List BreakPart) (b : BreakPart) → Has (break_layout before) b → IsBreak (address_behind before) b
+break_to before b h = record { address = h.0.1; count = h.1.0.0; actions = actions_to b.actions h.1.1 }
+
+break_from : (before : List BreakPart) (b : BreakPart) → IsBreak (address_behind before) b → Has (break_layout before) b
+break_from before b is = ((small_break (address_behind before) b.address is.address, is.address), ((is.count, refl), actions_from b.actions is.actions))
+
+address_step : (front : List BreakPart) (b : BreakPart) → address_behind (with_last front b) ≡ behind_break (address_behind front) b
+address_step front b = ap address_after (last_is front b)
+
+small_text : (n : ℕ) → is_text_length n ≡ true → n < 2 ^ 8
+small_text n h = grind arith
+
+expect_to : (e : ExpectPart) → Has expect_layout e → IsExpect e
+expect_to e h = record { some = h.0.1; count = h.0.0; long = h.1.0.0.1; text = h.1.0.1.0; actions = actions_to e.actions h.1.1 }
+
+expect_from : (e : ExpectPart) → IsExpect e → Has expect_layout e
+expect_from e is = ((is.count, is.some), (((small_text (length e.text) is.long, is.long), (is.text, refl)), actions_from e.actions is.actions))
+
+-- ---- all of it
+
+small_tail : (n : ℕ) → nat_le n longest_text ≡ true → n < 2 ^ 8
+small_tail n h = grind arith
+
+small_number : (most n : ℕ) → most < 2 ^ 16 → nat_le n most ≡ true → n < 2 ^ 16
+small_number most n few h = let le = leb-true n most h in omega (arith, few, le)
+
+ten : (n : ℕ) → n ≡ standard_kinds → n < 2 ^ 8
+ten n e = omega (arith, e)
+
+pub state_to : (s : State) → Has state_layout s → Valid s
+unfolding state_layout
+state_to s h = ?
+
+pub state_from : (s : State) → Valid s → Has state_layout s
+unfolding state_layout
+state_from s is = ?
