@@ -96,10 +96,14 @@ loose_text (Listed size ok each) xs =
 loose_text (Then a b) x = λ i. loose_text a x.0 i ++ loose_text (b x.0) x.1 i
 loose_text (Made make part there back a) y = loose_text a (part y)
 
+-- also where bytes stand behind them
+pub one_to_one_before : {A : Type 0} (l : Layout A) (x y : A) (a b : List ℕ) → Has (loose l) x → Has (loose l) y → text l x ++ a ≡ text l y ++ b → (x ≡ y) × (a ≡ b)
+one_to_one_before l x y a b hx hy e =
+    splits (reading (loose l)) (text (loose l)) (Has (loose l)) (law (loose l)) x y a b hx hy
+    (ap (λ (t : List ℕ). t ++ a) (loose_text l x) ∙ e ∙ ap (λ (t : List ℕ). t ++ b) (sym (loose_text l y)))
+
 pub one_to_one : {A : Type 0} (l : Layout A) (x y : A) → Has (loose l) x → Has (loose l) y → text l x ≡ text l y → x ≡ y
-one_to_one l x y hx hy e =
-    (splits (reading (loose l)) (text (loose l)) (Has (loose l)) (law (loose l)) x y [] [] hx hy
-    (ap (λ (t : List ℕ). t ++ []) (loose_text l x ∙ e ∙ sym (loose_text l y)))).0
+one_to_one l x y hx hy e = (one_to_one_before l x y [] [] hx hy (ap (λ (t : List ℕ). t ++ []) e)).0
 
 follow_same : {A S : Type 0} (H G : S → A → Type 0) (next : S → A → S) → ((s : S) (x : A) → H s x → G s x) → (s : S) (xs : List A) → Follow H next s xs → Follow G next s xs
 follow_same H G next more s [] has = tt

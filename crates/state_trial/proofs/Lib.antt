@@ -1,2 +1,9 @@
 pub mod NameLemmas
+pub mod Lists
 pub mod ValidLaws
+pub mod Results
+pub mod SealLaws
+pub mod EndLaws
+pub mod FitLaws
+pub mod LooseLaws
+pub mod TellLaws

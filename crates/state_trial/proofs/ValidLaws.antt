@@ -1,9 +1,7 @@
 -- What the rows ask of a saved session is that it is valid, in other words: there, and back.
-use Rattle.std.proofs.Common.{◌≡◌, ℕ, ◌+◌, ◌-◌, ◌*◌, ◌^◌, ◌<◌, Bool, true, List, [], ◌∷◌, ◌++◌, length, refl, sym, ap, subst, ◌∙◌, arith, eq-eqb}
-use Rattle.std.specs.Prelude.{nat_le, nat_lt, not, ◌&&◌, ◌||◌, ◌==◌, ◌≤◌, Option, Some, slice_get}
-use Rattle.std.specs.List.{AllByRecursion}
+use Rattle.std.proofs.Common.{◌≡◌, ℕ, ◌+◌, ◌^◌, ◌<◌, ◌≤◌, Bool, true, List, [], length, refl, ap, arith, eq-eqb}
+use Rattle.std.specs.Prelude.{nat_le, nat_lt, not, ◌&&◌, ◌||◌, ◌==◌}
 use Rattle.std.proofs.lemmas.Bool.{eqb-true, and_parts, ltb-true, leb-true}
-use Rattle.std.proofs.lemmas.List.{length-append}
 use Rattle.unit_trait.specs.declared.kind.Kind.{Kind}
 use Rattle.unit_trait.specs.declared.kind.Kind.TheVariants.{Dsk, Mta, Lpt, Ptr, Ptp, Clk, Tti, Tto, Tti1, Tto1, Qty}
 use Rattle.unit_trait.specs.Kinds.{units_of}
@@ -12,39 +10,13 @@ use Rattle.saved_session.specs.declared.saved.SavedCpu.{SavedCpu}
 use Rattle.saved_session.specs.declared.saved.SavedEvent.{SavedEvent}
 use Rattle.saved_session.specs.declared.saved.SavedSend.{SavedSend}
 use Rattle.saved_session.specs.Parts.{UnitPart, FilePart, BreakPart, ExpectPart, State}
-use Rattle.saved_session.specs.Ranges.{is_flag, is_size, is_address, is_time, is_key_count, kind_at, is_position, register_count, holds_value, standard_kinds, is_free, can_wait, comes_last, FilePlace, is_read_only_of, only_writes, is_name_length, longest_file_of, is_file_length, is_next_unit, longest_actions, is_text_length, longest_text, last_send}
+use Rattle.saved_session.specs.Ranges.{is_flag, is_size, is_address, is_time, is_key_count, kind_at, is_position, register_count, standard_kinds, most_events, is_free, is_read_only_of, only_writes, is_name_length, longest_file_of, is_file_length, most_breaks, longest_actions, most_expects, is_text_length, longest_text, most_sends, last_send}
 use Rattle.saved_session.specs.Order.{next_number, with_event, behind_file, behind_break, behind_send}
-use Rattle.saved_session.specs.Valid.{AreBytes, AreWords, Follow as Follows, IsCpu, CanHold, IsUnit, IsEvent, IsFile, AreActions, IsBreak, IsExpect, IsSend, Valid}
+use Rattle.saved_session.specs.Valid.{AreWords, IsCpu, CanHold, IsUnit, IsEvent, IsFile, AreActions, IsBreak, IsExpect, IsSend, Valid}
 use Rattle.byte_layouts.specs.Readers.{with_last}
-use Rattle.byte_layouts.specs.Layout.{Size, limit, IsNumber, Follow, Has}
-use Rattle.state_trial.specs.Rows.{word_layout, cpu_layout, register_layout, registers_layout, unit_layout, event_layout, place_after, place_behind, file_layout, actions_layout, address_after, address_behind, break_layout, expect_layout, tail_layout, time_after, time_behind, send_layout, state_layout}
-
--- ---- lists
-
--- what the next one may be is told by those before it, or by what the last of them left
-pub follows_to : {A S : Type 0} (H : List A → A → Type 0) (Each : S → A → Type 0) (next : S → A → S) (state_of : List A → S) → ((front : List A) (x : A) → state_of (with_last front x) ≡ next (state_of front) x)
-    → ((front : List A) (x : A) → H front x → Each (state_of front) x) → (front xs : List A) → Follow H with_last front xs → Follows Each next (state_of front) xs
-follows_to H Each next state_of step one front [] h = tt
-follows_to {A} {S} H Each next state_of step one front (x ∷ xs) h =
-    (one front x h.0, subst (λ (s : S). Follows Each next s xs) (step front x) (follows_to H Each next state_of step one (with_last front x) xs h.1))
-
-pub follows_from : {A S : Type 0} (H : List A → A → Type 0) (Each : S → A → Type 0) (next : S → A → S) (state_of : List A → S) → ((front : List A) (x : A) → state_of (with_last front x) ≡ next (state_of front) x)
-    → ((front : List A) (x : A) → Each (state_of front) x → H front x) → (front xs : List A) → Follows Each next (state_of front) xs → Follow H with_last front xs
-follows_from H Each next state_of step one front [] h = tt
-follows_from {A} {S} H Each next state_of step one front (x ∷ xs) h =
-    (one front x h.0, follows_from H Each next state_of step one (with_last front x) xs (subst (λ (s : S). Follows Each next s xs) (sym (step front x)) h.1))
-
-pub all_to : {A : Type 0} (H : List A → A → Type 0) (P : A → Type 0) → ((front : List A) (x : A) → H front x → P x) → (front xs : List A) → Follow H with_last front xs → AllByRecursion P xs
-all_to H P one front [] h = tt
-all_to H P one front (x ∷ xs) h = (one front x h.0, all_to H P one (with_last front x) xs h.1)
-
-pub all_from : {A : Type 0} (H : List A → A → Type 0) (P : A → Type 0) → ((front : List A) (x : A) → P x → H front x) → (front xs : List A) → AllByRecursion P xs → Follow H with_last front xs
-all_from H P one front [] h = tt
-all_from H P one front (x ∷ xs) h = (one front x h.0, all_from H P one (with_last front x) xs h.1)
-
--- the last one
-last_is : {A : Type 0} (front : List A) (x : A) → slice_get (with_last front x) (length (with_last front x) - 1) ≡ Some x
-last_is front x = ?
+use Rattle.byte_layouts.specs.Layout.{Follow, Has}
+use Rattle.state_trial.specs.Rows.{word_layout, cpu_layout, register_layout, registers_layout, unit_layout, event_layout, place_after, place_behind, file_layout, actions_layout, address_after, address_behind, break_layout, expect_layout, time_after, time_behind, send_layout, state_layout}
+use Rattle.state_trial.proofs.Lists.{follows_to, follows_from, all_to, all_from, numbers_step, last_is}
 
 -- ---- the processor
 
@@ -110,19 +82,16 @@ time_step front s = ap time_after (last_is front s)
 
 -- ---- units
 
-numbers_step : {A : Type 0} (front : List A) (x : A) → length (with_last front x) ≡ next_number (length front) x
-numbers_step front x = omega (arith, length-append front (x ∷ []))
-
 unit_to : (before : List UnitPart) (u : UnitPart) → Has (unit_layout before) u → IsUnit (length before) u
 unfolding registers_layout
 unit_to before u h = record {
   byte = h.0.0;
   position = eqb-true u.position (length before) h.0.1;
   all = eqb-true (length u.registers) (register_count (kind_at u.position)) h.1.0.1;
-  registers = follows_to (λ front. Has (register_layout (kind_at u.position) front)) (CanHold (kind_at u.position)) next_number (λ (front : List ℕ). length front) numbers_step (λ front x is. is) [] u.registers h.1.1;
+  registers = follows_to (λ front. Has (register_layout (kind_at u.position) front)) (CanHold (kind_at u.position)) next_number (λ (front : List ℕ). length front) (λ front x. numbers_step front x) (λ front x is. is) [] u.registers h.1.1;
 }
 
-below : (n m : ℕ) → n ≡ m → m < 2 ^ 8 → n < 2 ^ 8
+pub below : (n m : ℕ) → n ≡ m → m < 2 ^ 8 → n < 2 ^ 8
 below n m e lt = omega (arith, e, lt)
 
 unit_from : (before : List UnitPart) (u : UnitPart) → IsUnit (length before) u → Has (unit_layout before) u
@@ -130,7 +99,7 @@ unfolding registers_layout
 unit_from before u is = (
   (is.byte, eq-eqb u.position (length before) is.position),
   ((below (length u.registers) (register_count (kind_at u.position)) is.all (few_registers (kind_at u.position)), eq-eqb (length u.registers) (register_count (kind_at u.position)) is.all),
-  follows_from (λ front. Has (register_layout (kind_at u.position) front)) (CanHold (kind_at u.position)) next_number (λ (front : List ℕ). length front) numbers_step (λ front x holds. holds) [] u.registers is.registers),
+  follows_from (λ front. Has (register_layout (kind_at u.position) front)) (CanHold (kind_at u.position)) next_number (λ (front : List ℕ). length front) (λ front x. numbers_step front x) (λ front x holds. holds) [] u.registers is.registers),
 )
 
 -- ---- events
@@ -172,11 +141,22 @@ small_read_only kind n h = under n (leb-true n 1 (and_parts (is_flag n) (n == 0 
     under : (n : ℕ) → n ≤ 1 → n < 2 ^ 8
     under n le = omega (arith, le)
 
-small_name : (n : ℕ) → is_name_length n ≡ true → n < 2 ^ 16
+pub small_name : (n : ℕ) → is_name_length n ≡ true → n < 2 ^ 16
 small_name n h = grind arith
 
 longest : (kind : Kind) → longest_file_of kind ≤ 67108864
-longest kind = ?
+unfolding longest_file_of
+longest Dsk = omega arith
+longest Mta = omega arith
+longest Lpt = omega arith
+longest Ptr = omega arith
+longest Ptp = omega arith
+longest Clk = omega arith
+longest Tti = omega arith
+longest Tto = omega arith
+longest Tti1 = omega arith
+longest Tto1 = omega arith
+longest Qty = omega arith
 
 small_length : (kind : Kind) (n : ℕ) → is_file_length kind n ≡ true → n < 2 ^ 64
 small_length kind n h = under n (longest_file_of kind) (leb-true n (longest_file_of kind) h) (longest kind)
@@ -212,7 +192,7 @@ place_step front f = ap place_after (last_is front f)
 
 -- ---- breaks and texts
 
-small_actions : (n : ℕ) → nat_le n longest_actions ≡ true → n < 2 ^ 16
+pub small_actions : (n : ℕ) → nat_le n longest_actions ≡ true → n < 2 ^ 16
 small_actions n h = grind arith
 
 actions_to : (actions : List ℕ) → Has actions_layout actions → AreActions actions
@@ -233,7 +213,7 @@ break_from before b is = ((small_break (address_behind before) b.address is.addr
 address_step : (front : List BreakPart) (b : BreakPart) → address_behind (with_last front b) ≡ behind_break (address_behind front) b
 address_step front b = ap address_after (last_is front b)
 
-small_text : (n : ℕ) → is_text_length n ≡ true → n < 2 ^ 8
+pub small_text : (n : ℕ) → is_text_length n ≡ true → n < 2 ^ 8
 small_text n h = grind arith
 
 expect_to : (e : ExpectPart) → Has expect_layout e → IsExpect e
@@ -244,19 +224,73 @@ expect_from e is = ((is.count, is.some), (((small_text (length e.text) is.long, 
 
 -- ---- all of it
 
-small_tail : (n : ℕ) → nat_le n longest_text ≡ true → n < 2 ^ 8
+pub small_tail : (n : ℕ) → nat_le n longest_text ≡ true → n < 2 ^ 8
 small_tail n h = grind arith
 
-small_number : (most n : ℕ) → most < 2 ^ 16 → nat_le n most ≡ true → n < 2 ^ 16
-small_number most n few h = let le = leb-true n most h in omega (arith, few, le)
+pub small_events : (n : ℕ) → nat_le n most_events ≡ true → n < 2 ^ 16
+small_events n h = grind arith
 
-ten : (n : ℕ) → n ≡ standard_kinds → n < 2 ^ 8
+pub small_breaks : (n : ℕ) → nat_le n most_breaks ≡ true → n < 2 ^ 16
+small_breaks n h = grind arith
+
+pub small_expects : (n : ℕ) → nat_le n most_expects ≡ true → n < 2 ^ 8
+small_expects n h = grind arith
+
+pub small_sends : (n : ℕ) → nat_le n most_sends ≡ true → n < 2 ^ 16
+small_sends n h = grind arith
+
+pub ten : (n : ℕ) → n ≡ standard_kinds → n < 2 ^ 8
 ten n e = omega (arith, e)
 
 pub state_to : (s : State) → Has state_layout s → Valid s
 unfolding state_layout
-state_to s h = ?
+state_to s h =
+    let machine = h.1.1 in
+    let behind = machine.1.1.1 in
+    let tables = behind.1.1 in
+    record {
+      machine = record {
+        cpu = cpu_to s.machine.cpu machine.0.0;
+        size = machine.0.1.0;
+        words = words_to s.machine.words machine.0.1.1;
+        all = eqb-true (length s.machine.units) standard_kinds machine.1.0.0.1;
+        units = follows_to (λ front. Has (unit_layout front)) IsUnit next_number (λ (front : List UnitPart). length front) (λ front x. numbers_step front x) unit_to [] s.machine.units machine.1.0.1;
+        few = machine.1.1.0.0.1;
+        agenda = follows_to (λ front. Has (event_layout front)) IsEvent with_event (λ (front : List SavedEvent). front) (λ front x. refl) event_to [] s.machine.agenda machine.1.1.0.1;
+      };
+      files = record {
+        few = behind.0.0.0;
+        each = follows_to (λ front. Has (file_layout front)) IsFile behind_file place_behind place_step file_to [] s.files behind.0.1;
+      };
+      port = behind.1.0.0;
+      watch = record {
+        few_breaks = tables.0.0.1;
+        breaks = follows_to (λ front. Has (break_layout front)) IsBreak behind_break address_behind address_step break_to [] s.watch.breaks tables.0.1;
+        few_expects = tables.1.0.0.1;
+        expects = all_to (λ front. Has expect_layout) IsExpect (λ front x. expect_to x) [] s.watch.expects tables.1.0.1;
+        short_tail = tables.1.1.0.0.1;
+        tail = tables.1.1.0.1.0;
+        few_sends = tables.1.1.1.0.1;
+        sends = follows_to (λ front. Has (send_layout front)) IsSend behind_send time_behind time_step send_to [] s.watch.sends tables.1.1.1.1;
+      };
+    }
 
 pub state_from : (s : State) → Valid s → Has state_layout s
 unfolding state_layout
-state_from s is = ?
+state_from s is = (
+  tt,
+  (omega arith,
+  ((cpu_from s.machine.cpu is.machine.cpu, (is.machine.size, words_from s.machine.words is.machine.words)),
+  (((ten (length s.machine.units) is.machine.all, eq-eqb (length s.machine.units) standard_kinds is.machine.all),
+  follows_from (λ front. Has (unit_layout front)) IsUnit next_number (λ (front : List UnitPart). length front) (λ front x. numbers_step front x) unit_from [] s.machine.units is.machine.units),
+  (((small_events (length s.machine.agenda) is.machine.few, is.machine.few),
+  follows_from (λ front. Has (event_layout front)) IsEvent with_event (λ (front : List SavedEvent). front) (λ front x. refl) event_from [] s.machine.agenda is.machine.agenda),
+  (((is.files.few, refl), follows_from (λ front. Has (file_layout front)) IsFile behind_file place_behind place_step file_from [] s.files is.files.each),
+  ((is.port, refl),
+  (((small_breaks (length s.watch.breaks) is.watch.few_breaks, is.watch.few_breaks),
+  follows_from (λ front. Has (break_layout front)) IsBreak behind_break address_behind address_step break_from [] s.watch.breaks is.watch.breaks),
+  (((small_expects (length s.watch.expects) is.watch.few_expects, is.watch.few_expects), all_from (λ front. Has expect_layout) IsExpect (λ front x. expect_from x) [] s.watch.expects is.watch.expects),
+  (((small_tail (length s.watch.tail) is.watch.short_tail, is.watch.short_tail), (is.watch.tail, refl)),
+  ((small_sends (length s.watch.sends) is.watch.few_sends, is.watch.few_sends),
+  follows_from (λ front. Has (send_layout front)) IsSend behind_send time_behind time_step send_from [] s.watch.sends is.watch.sends)))))))))),
+)

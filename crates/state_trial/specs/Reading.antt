@@ -4,22 +4,14 @@ use Rattle.std.specs.Prelude.{ℕ, ◌==◌, List, length, take, Result, Ok, Err
 use Rattle.std.specs.Str.{bytes_eq}
 use Rattle.sha2.specs.Sha256.{sha256}
 use Rattle.byte_layouts.specs.declared.fault.FieldFault.{FieldFault}
-use Rattle.byte_layouts.specs.declared.fault.FieldFault.TheVariants as fields
 use Rattle.byte_layouts.specs.Readers.{At, counted}
 use Rattle.byte_layouts.specs.Layout.{reading as reading_of}
 use Rattle.byte_layouts.specs.Fed.{first_place}
 use Rattle.saved_session.specs.Parts.{State}
 use Rattle.state_trial.specs.declared.fault.StateFault.{StateFault}
 use Rattle.state_trial.specs.declared.fault.StateFault.TheVariants as faults
+use Rattle.state_trial.specs.Faults.{state_fault}
 use Rattle.state_trial.specs.Rows.{state_layout}
-
--- the fault of a row
-abbrev pub state_fault : FieldFault → StateFault
-state_fault fields.NotHead = faults.NotState
-state_fault (fields.Version n) = faults.Version n
-state_fault (fields.BadField place) = faults.BadField place
-state_fault fields.Truncated = faults.Truncated
-state_fault fields.OutOfMemory = faults.OutOfMemory
 
 -- goes on with what was read, unless there was a fault
 abbrev pub then_state : {A B : Type 0} → Result (A × At) FieldFault → (A → At → Result B StateFault) → Result B StateFault

@@ -5,7 +5,7 @@ use Rattle.unit_trait.specs.declared.kind.Kind.{Kind}
 use Rattle.saved_session.specs.declared.saved.SavedCpu.{SavedCpu}
 use Rattle.saved_session.specs.declared.saved.SavedEvent.{SavedEvent}
 use Rattle.saved_session.specs.declared.saved.SavedSend.{SavedSend}
-use Rattle.saved_session.specs.Parts.{UnitPart, FilePart, BreakPart, ExpectPart, State}
+use Rattle.saved_session.specs.Parts.{UnitPart, FilePart, BreakPart, ExpectPart, WatchPart, State}
 use Rattle.saved_session.specs.Ranges.{is_flag, is_size, is_address, is_time, is_key_count, kind_at, standard_kinds, is_position, register_count, holds_value, most_events, can_wait, comes_last, FilePlace, takes_file_at, is_next_unit, is_read_only_of, is_name_length, is_file_length, most_breaks, longest_actions, most_expects, longest_text, is_text_length, is_expect_count, most_sends, last_send, has_no_line_feed}
 use Rattle.saved_session.specs.Order.{place_of}
 use Rattle.byte_layouts.specs.Layout.{Layout, One, Two, Four, Eight, Head, Version, Number, Any, Bytes, Sized, Many, Listed, Then, Made, ◌&◌}
@@ -243,10 +243,13 @@ state_of v = record {
   watch = record { breaks = v.1.1.1.1.1.1.1.0; expects = v.1.1.1.1.1.1.1.1.0; tail = v.1.1.1.1.1.1.1.1.1.0; sends = v.1.1.1.1.1.1.1.1.1.1 };
 }
 
+abbrev pub tables_in : WatchPart → Tables
+tables_in w = (w.breaks, (w.expects, (w.tail, w.sends)))
+
 abbrev pub state_fields : State → Fields
 state_fields s =
-    (tt, (tt, ((s.machine.cpu, s.machine.words), (s.machine.units, (s.machine.agenda, (s.files, (s.port,
-    (s.watch.breaks, (s.watch.expects, (s.watch.tail, s.watch.sends))))))))))
+    (tt, (tt, ((s.machine.cpu, s.machine.words),
+    (s.machine.units, (s.machine.agenda, (s.files, (s.port, tables_in s.watch)))))))
 
 abbrev pub table_rows : Layout Tables
 table_rows =

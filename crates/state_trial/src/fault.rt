@@ -1,6 +1,8 @@
 ghost use Rattle.std.specs.Prelude.{◌≡◌};
 ghost use Rattle.state_trial.specs.declared.fault.StateFault.TheVariants as faults;
+ghost use Rattle.state_trial.specs.Faults.{state_fault};
 
+use byte_layouts::FieldFault;
 use std::alloc::{AllocError, AllocFailed};
 use thiserror::Error;
 

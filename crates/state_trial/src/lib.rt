@@ -2,12 +2,16 @@
 #![tactic(auto)]
 
 pub mod fault;
-pub mod file_formats;
-pub mod machine_formats;
-pub mod state_reader;
-pub mod watch_formats;
-pub mod writing;
+mod file_formats;
+pub mod laws;
+mod machine_formats;
+pub mod reading;
+mod state_reader;
+mod watch_formats;
+mod writing;
 
 pub use fault::StateFault;
+pub use laws::{state_texts_are_one_to_one, valid_states_are_read};
+pub use reading::read_state;
 pub use state_reader::StateReader;
 pub use writing::write_state;

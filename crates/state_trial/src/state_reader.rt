@@ -7,6 +7,7 @@ ghost use Rattle.sha2.specs.Hashers.{Holds256};
 ghost use Rattle.sha2.specs.Sha256.{sha256};
 ghost use Rattle.byte_layouts.specs.Readers.{counted};
 ghost use Rattle.byte_layouts.specs.Held.{at_in};
+ghost use Rattle.state_trial.specs.Rows.{state_of};
 ghost use Rattle.state_trial.specs.Text.{text};
 ghost use Rattle.state_trial.specs.Reading.{then_state, compared, reading};
 ghost use Rattle.state_trial.specs.Gives.{Gives};
@@ -18,8 +19,10 @@ use crate::machine_formats::{
     CpuFormat, EventFormat, HeadFormat, UnitFormat, VersionFormat, WordFormat,
 };
 use crate::watch_formats::{BreakFormat, ExpectFormat, SendFormat, TailFormat};
-use byte_layouts::{Both, Elements, Measured, One, Pending, Reading};
-use saved_session::Saved;
+use byte_layouts::{Both, Elements, Measured, One, Part, Pending, Reading};
+use saved_session::{
+    Saved, SavedBreak, SavedCpu, SavedEvent, SavedExpect, SavedFile, SavedSend, SavedUnit,
+};
 use std::alloc::{AllocError, Global};
 
 /// How many bytes are kept behind the last row: the digest, and one that stands behind the end.
@@ -40,6 +43,27 @@ type Machine = Both<
 
 /// The parts of a state file, in their order.
 pub type Parts = Both<One<HeadFormat>, Both<One<VersionFormat>, Machine>>;
+
+/// What was read of what a run watches.
+type FoundTables = (
+    Vec<SavedBreak>,
+    (Vec<SavedExpect>, (Vec<u8>, Vec<SavedSend>)),
+);
+
+/// What was read of all parts.
+type Found = (
+    (),
+    (
+        (),
+        (
+            (SavedCpu, Vec<u16>),
+            (
+                Vec<SavedUnit>,
+                (Vec<SavedEvent>, (Vec<SavedFile>, (u16, FoundTables))),
+            ),
+        ),
+    ),
+);
 
 /// Reads a state file that comes in pieces. It keeps what the file says so far, and of the file's bytes only those that
 /// came and are not read yet: at most the last piece, of 4096 bytes, and 582 bytes before it, since the longest record,
@@ -62,6 +86,14 @@ impl StateReader {
         })
     }
 
+    /// Takes a piece of any length, where memory has not run out.
+    pub(crate) fn take(&mut self, piece: &[u8]) -> Result<(), AllocError>
+        ensures fed { OnOk result ((fed : List ℕ) → IsFed self.old fed → IsFed self.new (fed ++ piece.now)) }
+        ensures same { self.new.failed ≡ self.old.failed }
+    {
+        self.reading.feed(piece)
+    }
+
     /// Takes the next piece, of at most 4096 bytes, which come behind those that were fed before. Of the faults of what
     /// came so far nothing is said before `finish`. The error is want of memory alone: the reading is over then, each
     /// further piece is refused too, and `finish` answers `OutOfMemory`.
@@ -77,13 +109,21 @@ impl StateReader {
         if self.failed {
             return Err(AllocError);
         }
-        match self.reading.feed(piece) {
+        match self.take(piece) {
             Ok(()) => Ok(()),
             Err(AllocError) => {
                 self.failed = true;
                 Err(AllocError)
             }
         }
+    }
+
+    // What was read says, or its fault.
+    fn told(self) -> Result<Saved, StateFault>
+        ensures { (fed : List ℕ) → IsFed self fed → Gives state_in result (reading fed) }
+    {
+        let (parts, pending) = self.reading.finish()?;
+        sealed(pending, joined(parts))
     }
 
     /// What all pieces say, one behind the other, as `read_state` has it.
@@ -104,22 +144,27 @@ impl StateReader {
         if self.failed {
             return Err(StateFault::OutOfMemory);
         }
-        let (parts, pending) = self.reading.finish()?;
-        let (_, (_, ((cpu, words), (units, (agenda, (attachments, (port, tables))))))) = parts;
-        let (breaks, (expects, (tail, sends))) = tables;
-        let saved = Saved {
-            cpu,
-            words,
-            units,
-            agenda,
-            attachments,
-            port,
-            breaks,
-            expects,
-            tail,
-            sends,
-        };
-        sealed(pending, saved)
+        self.told()
+    }
+}
+
+// What was read, as a saved session.
+fn joined(parts: Found) -> Saved
+    ensures { state_in result ≡ state_of (⟦<Parts as Part>⟧.view parts) }
+{
+    let (_, (_, ((cpu, words), (units, (agenda, (attachments, (port, tables))))))) = parts;
+    let (breaks, (expects, (tail, sends))) = tables;
+    Saved {
+        cpu,
+        words,
+        units,
+        agenda,
+        attachments,
+        port,
+        breaks,
+        expects,
+        tail,
+        sends,
     }
 }
 

@@ -1,8 +1,8 @@
 ghost use Rattle.std.specs.Prelude.{◌≡◌, ◌++◌, OnOk, IfOk};
 ghost use Rattle.saved_session.specs.Parts.{state_in};
 ghost use Rattle.saved_session.specs.Valid.{Fits};
-ghost use Rattle.byte_layouts.specs.Layout.{text as text_of};
-ghost use Rattle.state_trial.specs.Rows.{state_fields, table_rows};
+ghost use Rattle.byte_layouts.specs.Layout.{text as text_of, Fits as FitsIn};
+ghost use Rattle.state_trial.specs.Rows.{tables_in, table_rows, state_fields, state_rows};
 ghost use Rattle.state_trial.specs.Text.{body, text};
 
 use crate::file_formats::FileFormat;
@@ -15,8 +15,8 @@ use std::alloc::{AllocError, Global};
 
 // What a run watches.
 fn write_tables(saved: &Saved, out: &mut Vec<u8>) -> Result<(), AllocError>
-    requires { Fits (state_in saved.now) }
-    ensures { OnOk result (out.new.items ≡ out.old.items ++ text_of table_rows (state_fields (state_in saved.now)).1.1.1.1.1.1.1) }
+    requires { FitsIn table_rows (tables_in (state_in saved.now).watch) }
+    ensures { OnOk result (out.new.items ≡ out.old.items ++ text_of table_rows (tables_in (state_in saved.now).watch)) }
 {
     write_list::<BreakFormat>(&saved.breaks, out)?;
     write_list::<ExpectFormat>(&saved.expects, out)?;
@@ -27,7 +27,7 @@ fn write_tables(saved: &Saved, out: &mut Vec<u8>) -> Result<(), AllocError>
 // All rows.
 #[tactic(auto, unfolding(crate::specs::Text::body, crate::specs::Rows::state_layout))]
 fn write_rows(saved: &Saved, out: &mut Vec<u8>) -> Result<(), AllocError>
-    requires { Fits (state_in saved.now) }
+    requires { FitsIn state_rows (state_fields (state_in saved.now)) }
     ensures { OnOk result (out.new.items ≡ out.old.items ++ body (state_in saved.now)) }
 {
     out.extend_from_slice(b"NOVASTAT")?;
