@@ -4,6 +4,7 @@ pub mod Widths
 pub mod HeadLaws
 pub mod Lists
 pub mod LayoutLaws
+pub mod ByteLaws
 pub mod PartLaws
 pub mod FedLaws
 pub mod WholeLaws

@@ -110,3 +110,10 @@ sized_number One = u8_is
 sized_number Two = u16_is
 sized_number Four = u32_is
 sized_number Eight = u64_is
+
+-- a number's text is of bytes, however large it is
+pub number_bytes : (size : Size) (n : ℕ) → IsBytes (number_text (width size) n)
+number_bytes One n = eight.fits n
+number_bytes Two n = sixteen.fits n
+number_bytes Four n = thirty_two.fits n
+number_bytes Eight n = sixty_four.fits n

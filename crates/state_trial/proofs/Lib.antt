@@ -6,4 +6,5 @@ pub mod SealLaws
 pub mod EndLaws
 pub mod FitLaws
 pub mod LooseLaws
+pub mod ByteLaws
 pub mod TellLaws
