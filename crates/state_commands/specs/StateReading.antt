@@ -65,7 +65,7 @@ failure_of file read = None
 
 -- The same answer as one of a file that is read whole. Of its bytes it says nothing: the words of memory stand for them.
 abbrev pub bytes_for : Result StateReader WholeFault → Result (Vec ℕ) WholeFault
-bytes_for (Ok reader) = Ok reader.saved.words
+bytes_for (Ok reader) = Ok reader.reading.part.second.second.first.items
 bytes_for (Err why) = Err why
 
 abbrev pub whole_of : StateRead → Whole

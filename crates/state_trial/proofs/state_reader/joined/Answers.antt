@@ -1,8 +1,0 @@
-use Rattle.std.proofs.Common.{refl}
-use Rattle.std.proofs.lemmas.List.{map-id}
-use Rattle.state_trial.proofs.state_reader.joined.Goals as goal
-
-pub returns : goal.returns
-returns c =
-    let machine = c.args.parts.1.1 in
-    rw (map-id machine.0.1.items, map-id machine.1.1.0.items, map-id machine.1.1.1.1.1.1.1.1.items) refl
