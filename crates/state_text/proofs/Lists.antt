@@ -1,9 +1,10 @@
 -- Lists of which each element is as those before it ask, in the words of layouts and in those of saved sessions.
 use Rattle.std.proofs.Common.{◌≡◌, ℕ, suc, zero, ◌-◌, List, [], ◌∷◌, ◌++◌, length, get_or, refl, sym, subst, ◌∙◌, arith}
-use Rattle.std.specs.Prelude.{Option, Some, slice_get}
+use Rattle.std.specs.Prelude.{Option, Some, slice_get, map}
+use Rattle.std.specs.Option.{option_map}
 use Rattle.std.specs.List.{AllByRecursion}
-use Rattle.std.proofs.lemmas.List.{length-append, get_or-append_right}
-use Rattle.std.proofs.lemmas.Option.{slice_get_read}
+use Rattle.std.proofs.lemmas.List.{length-append, length-map, get_or-append_right}
+use Rattle.std.proofs.lemmas.Option.{slice_get_read, slice_get-map}
 use Rattle.saved_session.specs.Order.{next_number}
 use Rattle.saved_session.specs.Valid.{Follow as Follows}
 use Rattle.byte_layouts.specs.Readers.{with_last}
@@ -50,3 +51,7 @@ last_is {A} front x =
     slice_get_read (with_last front x) (length (with_last front x)) (length (with_last front x) - 1) x refl (omega (arith, size))
     (only_one x (length (with_last front x) - 1 - length front)
     ∙ sym (get_or-append_right front (x ∷ []) (length front) (length (with_last front x) - 1) x refl (omega (arith, size))))
+
+-- the last one as it is seen
+pub last_seen : {X A : Type 0} (view : X → A) (xs : List X) → slice_get (map view xs) (length (map view xs) - 1) ≡ option_map view (slice_get xs (length xs - 1))
+last_seen view xs = rw (length-map xs view) (slice_get-map view xs (length xs - 1))
