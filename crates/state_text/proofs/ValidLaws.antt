@@ -245,9 +245,9 @@ ten n e = omega (arith, e)
 pub state_to : (s : State) → Has state_layout s → Valid s
 unfolding state_layout
 state_to s h =
-    let machine = h.1.1 in
-    let behind = machine.1.1.1 in
-    let tables = behind.1.1 in
+    let machine = h.1.0 in
+    let files = h.1.1.0 in
+    let tables = h.1.1.1 in
     record {
       machine = record {
         cpu = cpu_to s.machine.cpu machine.0.0;
@@ -255,42 +255,40 @@ state_to s h =
         words = words_to s.machine.words machine.0.1.1;
         all = eqb-true (length s.machine.units) standard_kinds machine.1.0.0.1;
         units = follows_to (λ front. Has (unit_layout front)) IsUnit next_number (λ (front : List UnitPart). length front) (λ front x. numbers_step front x) unit_to [] s.machine.units machine.1.0.1;
-        few = machine.1.1.0.0.1;
-        agenda = follows_to (λ front. Has (event_layout front)) IsEvent with_event (λ (front : List SavedEvent). front) (λ front x. refl) event_to [] s.machine.agenda machine.1.1.0.1;
+        few = machine.1.1.0.1;
+        agenda = follows_to (λ front. Has (event_layout front)) IsEvent with_event (λ (front : List SavedEvent). front) (λ front x. refl) event_to [] s.machine.agenda machine.1.1.1;
       };
       files = record {
-        few = behind.0.0.0;
-        each = follows_to (λ front. Has (file_layout front)) IsFile behind_file place_behind place_step file_to [] s.files behind.0.1;
+        few = files.0.0.0;
+        each = follows_to (λ front. Has (file_layout front)) IsFile behind_file place_behind place_step file_to [] s.files files.0.1;
       };
-      port = behind.1.0.0;
+      port = files.1.0;
       watch = record {
-        few_breaks = tables.0.0.1;
-        breaks = follows_to (λ front. Has (break_layout front)) IsBreak behind_break address_behind address_step break_to [] s.watch.breaks tables.0.1;
-        few_expects = tables.1.0.0.1;
-        expects = all_to (λ front. Has expect_layout) IsExpect (λ front x. expect_to x) [] s.watch.expects tables.1.0.1;
-        short_tail = tables.1.1.0.0.1;
-        tail = tables.1.1.0.1.0;
-        few_sends = tables.1.1.1.0.1;
-        sends = follows_to (λ front. Has (send_layout front)) IsSend behind_send time_behind time_step send_to [] s.watch.sends tables.1.1.1.1;
+        few_breaks = tables.0.0.0.1;
+        breaks = follows_to (λ front. Has (break_layout front)) IsBreak behind_break address_behind address_step break_to [] s.watch.breaks tables.0.0.1;
+        few_expects = tables.0.1.0.1;
+        expects = all_to (λ front. Has expect_layout) IsExpect (λ front x. expect_to x) [] s.watch.expects tables.0.1.1;
+        short_tail = tables.1.0.0.1;
+        tail = tables.1.0.1.0;
+        few_sends = tables.1.1.0.1;
+        sends = follows_to (λ front. Has (send_layout front)) IsSend behind_send time_behind time_step send_to [] s.watch.sends tables.1.1.1;
       };
     }
 
 pub state_from : (s : State) → Valid s → Has state_layout s
 unfolding state_layout
 state_from s is = (
-  tt,
-  (omega arith,
-  ((cpu_from s.machine.cpu is.machine.cpu, (is.machine.size, words_from s.machine.words is.machine.words)),
+  (tt, omega arith),
+  (((cpu_from s.machine.cpu is.machine.cpu, (is.machine.size, words_from s.machine.words is.machine.words)),
   (((ten (length s.machine.units) is.machine.all, eq-eqb (length s.machine.units) standard_kinds is.machine.all),
   follows_from (λ front. Has (unit_layout front)) IsUnit next_number (λ (front : List UnitPart). length front) (λ front x. numbers_step front x) unit_from [] s.machine.units is.machine.units),
-  (((small_events (length s.machine.agenda) is.machine.few, is.machine.few),
-  follows_from (λ front. Has (event_layout front)) IsEvent with_event (λ (front : List SavedEvent). front) (λ front x. refl) event_from [] s.machine.agenda is.machine.agenda),
-  (((is.files.few, refl), follows_from (λ front. Has (file_layout front)) IsFile behind_file place_behind place_step file_from [] s.files is.files.each),
-  ((is.port, refl),
-  (((small_breaks (length s.watch.breaks) is.watch.few_breaks, is.watch.few_breaks),
+  ((small_events (length s.machine.agenda) is.machine.few, is.machine.few),
+  follows_from (λ front. Has (event_layout front)) IsEvent with_event (λ (front : List SavedEvent). front) (λ front x. refl) event_from [] s.machine.agenda is.machine.agenda))),
+  ((((is.files.few, refl), follows_from (λ front. Has (file_layout front)) IsFile behind_file place_behind place_step file_from [] s.files is.files.each), (is.port, refl)),
+  ((((small_breaks (length s.watch.breaks) is.watch.few_breaks, is.watch.few_breaks),
   follows_from (λ front. Has (break_layout front)) IsBreak behind_break address_behind address_step break_from [] s.watch.breaks is.watch.breaks),
-  (((small_expects (length s.watch.expects) is.watch.few_expects, is.watch.few_expects), all_from (λ front. Has expect_layout) IsExpect (λ front x. expect_from x) [] s.watch.expects is.watch.expects),
+  ((small_expects (length s.watch.expects) is.watch.few_expects, is.watch.few_expects), all_from (λ front. Has expect_layout) IsExpect (λ front x. expect_from x) [] s.watch.expects is.watch.expects)),
   (((small_tail (length s.watch.tail) is.watch.short_tail, is.watch.short_tail), (is.watch.tail, refl)),
   ((small_sends (length s.watch.sends) is.watch.few_sends, is.watch.few_sends),
-  follows_from (λ front. Has (send_layout front)) IsSend behind_send time_behind time_step send_from [] s.watch.sends is.watch.sends)))))))))),
+  follows_from (λ front. Has (send_layout front)) IsSend behind_send time_behind time_step send_from [] s.watch.sends is.watch.sends))))),
 )

@@ -17,36 +17,40 @@ use Rattle.state_text.specs.Rows.{head, this_version, word_count, word_layout, c
 -- the processor and the words
 abbrev pub rest_of_memory : StateReader → Reader Memory
 rest_of_memory r =
-    let memory = r.reading.part.second.second.first in
+    let memory = r.reading.part.second.first.first in
     rest_of_measured (λ (c : SavedCpu). c) word_count (reading cpu_layout) (λ front. reading word_layout) memory.head
     memory.left (map (λ (n : ℕ). n) memory.items.items)
 
 -- what a run watches
 abbrev pub rest_of_tables : StateReader → Reader Tables
 rest_of_tables r =
-    let tables = r.reading.part.second.second.second.second.second.second.second in
-    let breaks = tables.first in
-    let expects = tables.second.first in
-    let sends = tables.second.second.second in
-    both (rest_of_list (reading (Number Two few_breaks)) (λ front. reading (break_layout front)) breaks.counted breaks.left (map break_in breaks.items.items))
-    (both (rest_of_list (reading (Number One few_expects)) (λ front. reading expect_layout) expects.counted expects.left (map expect_in expects.items.items))
-    (both (rest_of_one (λ (v : Vec ℕ). v.items) (reading tail_layout) tables.second.second.first.item)
-    (rest_of_list (reading (Number Two few_sends)) (λ front. reading (send_layout front)) sends.counted sends.left (map (λ (s : SavedSend). s) sends.items.items))))
+    let tables = r.reading.part.second.second.second in
+    let breaks = tables.first.first in
+    let expects = tables.first.second in
+    let sends = tables.second.second in
+    both
+    (both (rest_of_list (reading (Number Two few_breaks)) (λ front. reading (break_layout front)) breaks.counted breaks.left (map break_in breaks.items.items))
+    (rest_of_list (reading (Number One few_expects)) (λ front. reading expect_layout) expects.counted expects.left (map expect_in expects.items.items)))
+    (both (rest_of_one (λ (v : Vec ℕ). v.items) (reading tail_layout) tables.second.first.item)
+    (rest_of_list (reading (Number Two few_sends)) (λ front. reading (send_layout front)) sends.counted sends.left (map (λ (s : SavedSend). s) sends.items.items)))
 
 abbrev pub rest_of : StateReader → Reader Fields
 rest_of r =
     let part = r.reading.part in
-    let units = part.second.second.second.first in
-    let events = part.second.second.second.second.first in
-    let files = part.second.second.second.second.second.first in
-    both (rest_of_one (λ (u : Unit {0}). u) (reading (Head head)) part.first.item)
-    (both (rest_of_one (λ (u : Unit {0}). u) (reading (Version this_version)) part.second.first.item)
+    let units = part.second.first.second.first in
+    let events = part.second.first.second.second in
+    let files = part.second.second.first.first in
+    both
+    (both (rest_of_one (λ (u : Unit {0}). u) (reading (Head head)) part.first.first.item)
+    (rest_of_one (λ (u : Unit {0}). u) (reading (Version this_version)) part.first.second.item))
+    (both
     (both (rest_of_memory r)
     (both (rest_of_list (reading (Number One all_units)) (λ front. reading (unit_layout front)) units.counted units.left (map unit_in units.items.items))
-    (both (rest_of_list (reading (Number Two few_events)) (λ front. reading (event_layout front)) events.counted events.left (map (λ (e : SavedEvent). e) events.items.items))
+    (rest_of_list (reading (Number Two few_events)) (λ front. reading (event_layout front)) events.counted events.left (map (λ (e : SavedEvent). e) events.items.items))))
+    (both
     (both (rest_of_list (reading (Number One any)) (λ front. reading (file_layout front)) files.counted files.left (map file_in files.items.items))
-    (both (rest_of_one (λ (n : ℕ). n) (reading word_layout) part.second.second.second.second.second.second.first.item)
-    (rest_of_tables r)))))))
+    (rest_of_one (λ (n : ℕ). n) (reading word_layout) part.second.second.first.second.item))
+    (rest_of_tables r)))
 
 -- ---- what was fed
 

@@ -5,7 +5,7 @@ use Rattle.unit_trait.specs.declared.kind.Kind.{Kind}
 use Rattle.saved_session.specs.declared.saved.SavedCpu.{SavedCpu}
 use Rattle.saved_session.specs.declared.saved.SavedEvent.{SavedEvent}
 use Rattle.saved_session.specs.declared.saved.SavedSend.{SavedSend}
-use Rattle.saved_session.specs.Parts.{UnitPart, FilePart, BreakPart, ExpectPart, WatchPart, State}
+use Rattle.saved_session.specs.Parts.{UnitPart, FilePart, BreakPart, ExpectPart, MachinePart, WatchPart, State}
 use Rattle.saved_session.specs.Ranges.{is_flag, is_size, is_address, is_time, is_key_count, kind_at, standard_kinds, is_position, register_count, holds_value, most_events, can_wait, comes_last, FilePlace, takes_file_at, is_next_unit, is_read_only_of, is_name_length, is_file_length, most_breaks, longest_actions, most_expects, longest_text, is_text_length, is_expect_count, most_sends, last_send, has_no_line_feed}
 use Rattle.saved_session.specs.Order.{place_of}
 use Rattle.byte_layouts.specs.Layout.{Layout, One, Two, Four, Eight, Head, Version, Number, Any, Bytes, Sized, Many, Listed, Then, Made, ◌&◌}
@@ -230,42 +230,44 @@ abbrev pub Memory : Type 0
 Memory = SavedCpu × List ℕ
 
 abbrev pub Tables : Type 0
-Tables = List BreakPart × (List ExpectPart × (List ℕ × List SavedSend))
+Tables = (List BreakPart × List ExpectPart) × (List ℕ × List SavedSend)
+
+abbrev pub MachineFields : Type 0
+MachineFields = Memory × (List UnitPart × List SavedEvent)
 
 abbrev pub Fields : Type 0
-Fields = Unit {0} × (Unit {0} × (Memory × (List UnitPart × (List SavedEvent × (List FilePart × (ℕ × Tables))))))
+Fields = (Unit {0} × Unit {0}) × (MachineFields × ((List FilePart × ℕ) × Tables))
 
 abbrev pub state_of : Fields → State
 state_of v = record {
-  machine = record { cpu = v.1.1.0.0; words = v.1.1.0.1; units = v.1.1.1.0; agenda = v.1.1.1.1.0 };
-  files = v.1.1.1.1.1.0;
-  port = v.1.1.1.1.1.1.0;
-  watch = record { breaks = v.1.1.1.1.1.1.1.0; expects = v.1.1.1.1.1.1.1.1.0; tail = v.1.1.1.1.1.1.1.1.1.0; sends = v.1.1.1.1.1.1.1.1.1.1 };
+  machine = record { cpu = v.1.0.0.0; words = v.1.0.0.1; units = v.1.0.1.0; agenda = v.1.0.1.1 };
+  files = v.1.1.0.0;
+  port = v.1.1.0.1;
+  watch = record { breaks = v.1.1.1.0.0; expects = v.1.1.1.0.1; tail = v.1.1.1.1.0; sends = v.1.1.1.1.1 };
 }
 
 abbrev pub tables_in : WatchPart → Tables
-tables_in w = (w.breaks, (w.expects, (w.tail, w.sends)))
+tables_in w = ((w.breaks, w.expects), (w.tail, w.sends))
+
+abbrev pub machine_in : MachinePart → MachineFields
+machine_in m = ((m.cpu, m.words), (m.units, m.agenda))
 
 abbrev pub state_fields : State → Fields
-state_fields s =
-    (tt, (tt, ((s.machine.cpu, s.machine.words),
-    (s.machine.units, (s.machine.agenda, (s.files, (s.port, tables_in s.watch)))))))
+state_fields s = ((tt, tt), (machine_in s.machine, ((s.files, s.port), tables_in s.watch)))
+
+abbrev pub machine_rows : Layout MachineFields
+machine_rows =
+    Then cpu_layout (λ cpu. Many (word_count cpu) (λ before. word_layout))
+    & (Listed One all_units unit_layout & Listed Two few_events event_layout)
 
 abbrev pub table_rows : Layout Tables
 table_rows =
-    Listed Two few_breaks break_layout & Listed One few_expects (λ before. expect_layout) & tail_layout
-    & Listed Two few_sends send_layout
+    (Listed Two few_breaks break_layout & Listed One few_expects (λ before. expect_layout))
+    & (tail_layout & Listed Two few_sends send_layout)
 
 abbrev pub state_rows : Layout Fields
 state_rows =
-    Head head
-    & Version this_version
-    & Then cpu_layout (λ cpu. Many (word_count cpu) (λ before. word_layout))
-    & Listed One all_units unit_layout
-    & Listed Two few_events event_layout
-    & Listed One any file_layout
-    & word_layout
-    & table_rows
+    (Head head & Version this_version) & (machine_rows & ((Listed One any file_layout & word_layout) & table_rows))
 
 -- all but the digest
 unfoldable pub state_layout : Layout State

@@ -28,42 +28,27 @@ use std::alloc::{AllocError, Global};
 /// How many bytes are kept behind the last row: the digest, and one that stands behind the end.
 const KEPT: usize = 33;
 
-type Tables = Both<
-    Elements<BreakFormat>,
-    Both<Elements<ExpectFormat>, Both<One<TailFormat>, Elements<SendFormat>>>,
->;
+type Start = Both<One<HeadFormat>, One<VersionFormat>>;
 
-type Machine = Both<
-    Measured<CpuFormat, WordFormat>,
-    Both<
-        Elements<UnitFormat>,
-        Both<Elements<EventFormat>, Both<Elements<FileFormat>, Both<One<WordFormat>, Tables>>>,
-    >,
+type Machine =
+    Both<Measured<CpuFormat, WordFormat>, Both<Elements<UnitFormat>, Elements<EventFormat>>>;
+
+type Tables = Both<
+    Both<Elements<BreakFormat>, Elements<ExpectFormat>>,
+    Both<One<TailFormat>, Elements<SendFormat>>,
 >;
 
 /// The parts of a state file, in their order.
-pub type Parts = Both<One<HeadFormat>, Both<One<VersionFormat>, Machine>>;
+pub type Parts = Both<Start, Both<Machine, Both<Both<Elements<FileFormat>, One<WordFormat>>, Tables>>>;
+
+/// What was read of the machine.
+type FoundMachine = ((SavedCpu, Vec<u16>), (Vec<SavedUnit>, Vec<SavedEvent>));
 
 /// What was read of what a run watches.
-type FoundTables = (
-    Vec<SavedBreak>,
-    (Vec<SavedExpect>, (Vec<u8>, Vec<SavedSend>)),
-);
+type FoundTables = ((Vec<SavedBreak>, Vec<SavedExpect>), (Vec<u8>, Vec<SavedSend>));
 
 /// What was read of all parts.
-type Found = (
-    (),
-    (
-        (),
-        (
-            (SavedCpu, Vec<u16>),
-            (
-                Vec<SavedUnit>,
-                (Vec<SavedEvent>, (Vec<SavedFile>, (u16, FoundTables))),
-            ),
-        ),
-    ),
-);
+type Found = (((), ()), (FoundMachine, ((Vec<SavedFile>, u16), FoundTables)));
 
 /// Reads a state file that comes in pieces. It keeps what the file says so far, and of the file's bytes only those that
 /// came and are not read yet: at most the last piece, of 4096 bytes, and 582 bytes before it, since the longest record,
@@ -152,8 +137,10 @@ impl StateReader {
 fn joined(parts: Found) -> Saved
     ensures { state_in result ≡ state_of (⟦<Parts as Part>⟧.view parts) }
 {
-    let (_, (_, ((cpu, words), (units, (agenda, (attachments, (port, tables))))))) = parts;
-    let (breaks, (expects, (tail, sends))) = tables;
+    let (_, (machine, (files, tables))) = parts;
+    let ((cpu, words), (units, agenda)) = machine;
+    let (attachments, port) = files;
+    let ((breaks, expects), (tail, sends)) = tables;
     Saved {
         cpu,
         words,
