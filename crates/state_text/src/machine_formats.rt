@@ -1,5 +1,5 @@
 // How the machine is read and written: its processor, words, units and events.
-ghost use Rattle.std.specs.Prelude.{◌≡◌, ◌<◌, ◌^◌, ◌++◌, ◌&&◌, OnOk, ℕ, List, length, map, nat_le, nat_lt, ◌==◌, refl};
+ghost use Rattle.std.specs.Prelude.{◌≡◌, ◌<◌, ◌^◌, ◌++◌, ◌&&◌, OnOk, ℕ, List, [], length, map, nat_le, nat_lt, ◌==◌, refl};
 ghost use Rattle.std.specs.List.{list_any};
 ghost use Rattle.std.specs.Int.{w8, w16, w32};
 ghost use Rattle.unit_trait.specs.declared.kind.Kind.{Kind};

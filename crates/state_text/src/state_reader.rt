@@ -1,5 +1,5 @@
 // A state file that is read as it comes.
-ghost use Rattle.std.specs.Prelude.{◌≡◌, ◌≤◌, ◌++◌, List, [], Ok, Err, IfOk, IsErr, OnErr, OnOk, length, true, false};
+ghost use Rattle.std.specs.Prelude.{◌≡◌, ◌≤◌, ◌++◌, ℕ, List, [], Ok, Err, IfOk, IsErr, OnErr, OnOk, length, true, false};
 ghost use Rattle.state_text.specs.declared.fault.StateFault.TheVariants.{OutOfMemory};
 ghost use Rattle.saved_session.specs.Parts.{State, state_in};
 ghost use Rattle.saved_session.specs.Valid.{Valid, Fits};
