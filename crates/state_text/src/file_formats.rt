@@ -1,5 +1,5 @@
 // How the attached files are read and written.
-ghost use Rattle.std.specs.Prelude.{◌≡◌, ◌<◌, ◌&&◌, ◌++◌, OnOk, IfOk, IsTrue, ℕ, map, nat_lt, nat_le, refl};
+ghost use Rattle.std.specs.Prelude.{◌≡◌, ◌+◌, ◌<◌, ◌&&◌, ◌++◌, OnOk, IfOk, IsTrue, ℕ, map, nat_lt, nat_le, refl};
 ghost use Rattle.std.specs.Str.{is_utf8};
 ghost use Rattle.std.specs.String.{string_bytes};
 ghost use Rattle.std.specs.Int.{w8, w16, w64};
@@ -27,6 +27,13 @@ pub struct Place {
     pub unit: u16,
 }
 
+// The number behind that of a unit.
+fn next_unit(unit: u8) -> u16
+    ensures { result ≡ unit + 1 }
+{
+    u16::from(unit) + 1
+}
+
 // From where on the next file can be.
 fn place_behind(before: &[SavedFile]) -> Place
     ensures { place_of result.position result.unit ≡ place_behind (map file_in before.now) }
@@ -34,7 +41,7 @@ fn place_behind(before: &[SavedFile]) -> Place
     match before.last() {
         Some(last) => Place {
             position: last.position,
-            unit: u16::from(last.unit) + 1,
+            unit: next_unit(last.unit),
         },
         None => Place {
             position: 0,

@@ -1,5 +1,5 @@
 // How what a run watches is read and written: breaks, texts that are waited for, the printed tail, and bytes that are sent.
-ghost use Rattle.std.specs.Prelude.{◌≡◌, ◌<◌, ◌^◌, ◌++◌, ◌&&◌, OnOk, IfOk, ℕ, List, length, map, nat_le, refl};
+ghost use Rattle.std.specs.Prelude.{◌≡◌, ◌+◌, ◌<◌, ◌^◌, ◌++◌, ◌&&◌, OnOk, IfOk, ℕ, List, length, map, nat_le, refl};
 ghost use Rattle.std.specs.Int.{w8, w16, w32};
 ghost use Rattle.saved_session.specs.declared.saved.SavedSend.{SavedSend};
 ghost use Rattle.saved_session.specs.Parts.{BreakPart, ExpectPart, break_in, expect_in};
@@ -60,12 +60,19 @@ pub fn put_long(out: &mut Vec<u8>, bytes: &[u8]) -> Result<(), AllocError>
 /// A break.
 pub struct BreakFormat;
 
+// The number behind an address.
+fn next_address(address: u16) -> u32
+    ensures { result ≡ address + 1 }
+{
+    u32::from(address) + 1
+}
+
 // From which address on the next break can be.
 fn address_behind(before: &[SavedBreak]) -> u32
     ensures { result ≡ address_behind (map break_in before.now) }
 {
     match before.last() {
-        Some(last) => u32::from(last.address) + 1,
+        Some(last) => next_address(last.address),
         None => 0,
     }
 }
