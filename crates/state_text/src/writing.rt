@@ -2,7 +2,7 @@ ghost use Rattle.std.specs.Prelude.{◌≡◌, ◌++◌, OnOk, IfOk};
 ghost use Rattle.saved_session.specs.Parts.{state_in};
 ghost use Rattle.saved_session.specs.Valid.{Fits};
 ghost use Rattle.byte_layouts.specs.Layout.{text as text_of, Fits as FitsIn};
-ghost use Rattle.state_text.specs.Rows.{tables_in, table_rows, state_fields, state_rows};
+ghost use Rattle.state_text.specs.Rows.{machine_in, machine_rows, tables_in, table_rows, state_fields, state_rows};
 ghost use Rattle.state_text.specs.Text.{body, text};
 
 use crate::file_formats::FileFormat;
@@ -24,6 +24,17 @@ fn write_tables(saved: &Saved, out: &mut Vec<u8>) -> Result<(), AllocError>
     write_list::<SendFormat>(&saved.sends, out)
 }
 
+// The machine.
+fn write_machine(saved: &Saved, out: &mut Vec<u8>) -> Result<(), AllocError>
+    requires { FitsIn machine_rows (machine_in (state_in saved.now).machine) }
+    ensures { OnOk result (out.new.items ≡ out.old.items ++ text_of machine_rows (machine_in (state_in saved.now).machine)) }
+{
+    write_cpu(&saved.cpu, out)?;
+    write_plain::<WordFormat>(&saved.words, out)?;
+    write_list::<UnitFormat>(&saved.units, out)?;
+    write_list::<EventFormat>(&saved.agenda, out)
+}
+
 // All rows.
 #[tactic(auto, unfolding(crate::specs::Text::body, crate::specs::Rows::state_layout))]
 fn write_rows(saved: &Saved, out: &mut Vec<u8>) -> Result<(), AllocError>
@@ -32,10 +43,7 @@ fn write_rows(saved: &Saved, out: &mut Vec<u8>) -> Result<(), AllocError>
 {
     out.extend_from_slice(b"NOVASTAT")?;
     put_u16(out, 1)?;
-    write_cpu(&saved.cpu, out)?;
-    write_plain::<WordFormat>(&saved.words, out)?;
-    write_list::<UnitFormat>(&saved.units, out)?;
-    write_list::<EventFormat>(&saved.agenda, out)?;
+    write_machine(saved, out)?;
     write_list::<FileFormat>(&saved.attachments, out)?;
     put_u16(out, saved.port)?;
     write_tables(saved, out)
