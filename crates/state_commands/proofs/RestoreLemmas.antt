@@ -48,7 +48,7 @@ use Rattle.unit_files.specs.Attachments.{is_any_attached}
 use Rattle.whole_files.specs.Claims.{said_of as said_of_whole, said_of_bytes}
 use Rattle.nova_machine.specs.Machine.{MachineState}
 use Rattle.nova_machine.specs.Seen.{erased}
-use Rattle.state_text.specs.Readers.{Fails}
+use Rattle.state_text.specs.Gives.{Fails}
 use Rattle.command_session.specs.Occupied.{has_port}
 use Rattle.command_session.proofs.SeenLemmas.{attached-erased}
 use Rattle.command_session.proofs.CloseLemmas.{said-append}
