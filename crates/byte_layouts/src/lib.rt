@@ -1,4 +1,4 @@
-//! Layouts of bytes as data, and readers of them: a whole text or one that comes in pieces, field by field from the left.
+//! Layouts of bytes as data, and readers of a text by them, whole or in pieces, field by field from the left.
 #![tactic(auto)]
 
 pub mod both;

@@ -1,4 +1,4 @@
-// How what a run watches is read and written: breaks, texts that are waited for, the printed tail, and bytes that are sent.
+// How what a run watches is read and written: breaks, texts that are waited for, the last bytes printed, those to send.
 ghost use Rattle.std.specs.Prelude.{◌≡◌, ◌+◌, ◌<◌, ◌^◌, ◌++◌, ◌&&◌, OnOk, IfOk, ℕ, List, length, map, nat_le, refl};
 ghost use Rattle.std.specs.Int.{w8, w16, w32};
 ghost use Rattle.saved_session.specs.declared.saved.SavedSend.{SavedSend};
