@@ -3,7 +3,6 @@ use Rattle.std.specs.Prelude.{◌≡◌, ℕ, ◌+◌, ◌<◌, ◌≤◌, ◌�
 use Rattle.expect_actions.specs.Breaks.{has_break}
 use Rattle.nova_machine.specs.declared.machine.Stop.{Stop}
 use Rattle.nova_machine.specs.declared.machine.Stop.TheVariants.{Stepped, Limit}
-use Rattle.nova_machine.specs.LineChanges.{ports_of}
 use Rattle.nova_machine.specs.Machine.{MachineState}
 use Rattle.nova_machine.specs.Notes.{RunNote, at_time}
 use Rattle.nova_machine.specs.Seen.{Seen}
@@ -34,10 +33,9 @@ pub record RunSplits : Type 0 where
   -- another stop within the first n ends the whole run
   pub stopped : (note : Option RunNote) (one step : Bool) (n k : ℕ) (s : Seen) → ¬ IsLimit (run note one n s).stop → run note step (n + k) s ≡ run note one n s
 
--- what no run changes: how many words the memory has and which rule its auto-index locations, the switch register, STOP_DEV, and what is attached
+-- what no run changes: how many words the memory has, the switch register, STOP_DEV, and what is attached
 pub record Unchanged (before after : MachineState) : Type 0 where
   pub size : after.processor.memory.size ≡ before.processor.memory.size
-  pub rule : after.processor.memory.before ≡ before.processor.memory.before
   pub sr : after.sr ≡ before.sr
   pub stop_dev : after.stop_dev ≡ before.stop_dev
   pub slots : after.slots ≡ before.slots
@@ -53,5 +51,3 @@ pub record RunTakesTime : Type 0 where
   -- where no instruction was executed, interrupts wait as before
   pub held : (note : Option RunNote) (step : Bool) (n : ℕ) (s : Seen) → (run note step n s).after.machine.time ≡ s.machine.time → (run note step n s).after.machine.ints.hold ≡ s.machine.ints.hold
   pub unchanged : (note : Option RunNote) (step : Bool) (n : ℕ) (s : Seen) → Unchanged s.machine (run note step n s).after.machine
-  -- and each line has its port, or none
-  pub ports : (note : Option RunNote) (step : Bool) (n : ℕ) (s : Seen) → ports_of (run note step n s).after.lines ≡ ports_of s.lines
