@@ -30,7 +30,7 @@ use Rattle.state_text.specs.declared.fault.StateFault.{StateFault}
 use Rattle.state_text.specs.declared.fault.StateFault.TheVariants as state
 use Rattle.saved_session.specs.Parts.{State}
 use Rattle.state_text.specs.Reading.{reading}
-use Rattle.saved_files.specs.Restoring.{FileRefusal, CallFails, first_refused}
+use Rattle.saved_files.specs.Putting.{FileRefusal, CallFails, first_refused}
 use Rattle.command_session.specs.declared.next.Next.TheVariants.{Ran}
 use Rattle.command_session.specs.declared.fault.CommandFault.TheVariants.{Console, OutOfMemory, AlreadyAttached, NoFile, FileTooLong, FileFailed}
 use Rattle.state_commands.specs.StateFaults.{state_fault}

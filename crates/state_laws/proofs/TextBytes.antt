@@ -9,8 +9,8 @@ use Rattle.expect_actions.specs.declared.expects.Expect.{Expect}
 use Rattle.nova_machine.specs.Seen.{Seen}
 use Rattle.nova_machine.specs.Valid.{HasByteName, ValidBreak, ValidExpect, Valid as ValidSeen}
 use Rattle.saved_session.specs.Parts.{BreakPart}
-use Rattle.saved_files.specs.declared.saving.UnitPlace.{UnitPlace}
-use Rattle.saved_files.specs.Saving.{unit_at, file_places, saved_at, saved_files}
+use Rattle.saved_files.specs.declared.taking.UnitPlace.{UnitPlace}
+use Rattle.saved_files.specs.Taking.{unit_at, file_places, saved_at, saved_files}
 use Rattle.state_transfer.specs.Session.{saved}
 use Rattle.saved_session.specs.SavedWatch.{saved_break, saved_expect, saved_watch}
 use Rattle.state_text.specs.Text.{text}

@@ -18,7 +18,7 @@ use Rattle.state_transfer.specs.Putting.{with_machine_of}
 use Rattle.telnet_lines.specs.Line.{LineOf}
 use Rattle.state_transfer.specs.PutBack.{put_back}
 use Rattle.unit_trait.specs.declared.kind.UnitName.{UnitName}
-use Rattle.saved_files.specs.Restoring.{FileRefusal, claim_in, first_refused, SaysFirst}
+use Rattle.saved_files.specs.Putting.{FileRefusal, claim_in, first_refused, SaysFirst}
 use Rattle.command_session.specs.declared.next.Next.TheVariants.{Go}
 use Rattle.command_session.specs.declared.fault.CommandFault.TheVariants.{AlreadyAttached}
 use Rattle.command_session.specs.declared.fault.CommandFault.{CommandFault}
