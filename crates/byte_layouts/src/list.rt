@@ -127,7 +127,10 @@ pub fn write_plain<R: Plain>(items: &[R::Item], out: &mut Vec<u8>) -> Result<(),
 }
 
 /// Writes a list behind the number of its elements.
-pub fn write_list<R: ListFormat + Writes>(items: &[R::Item], out: &mut Vec<u8>) -> Result<(), AllocError>
+pub fn write_list<R: ListFormat + Writes>(
+    items: &[R::Item],
+    out: &mut Vec<u8>,
+) -> Result<(), AllocError>
     requires { Fits (Listed R.size R.few R.layout) (map R.view items.now) }
     ensures { OnOk result (out.new.items ≡ out.old.items ++ text (Listed R.size R.few R.layout) (map R.view items.now)) }
 {

@@ -38,14 +38,28 @@ rows_are : (s : State) → StateIsOfBytes s → IsOfBytes state_layout s
 unfolding state_layout cpu_layout registers_layout
 rows_are s is = (
   ((omega arith, (omega arith, (omega arith, (omega arith, (omega arith, (omega arith, (omega arith, (omega arith, tt)))))))), tt),
-  (((((tt, (words_are s.machine.cpu.acs, (tt, tt))), ((tt, (tt, (tt, (tt, tt)))), (tt, tt))), words_are s.machine.words),
-  (all_fit (λ front. IsOfBytes (unit_layout front)) (λ front (u : UnitPart). (tt, all_fit (λ front. IsOfBytes (register_layout (kind_at u.position) front)) (λ front r. tt) [] u.registers)) [] s.machine.units,
-  all_fit (λ front. IsOfBytes (event_layout front)) (λ front (e : SavedEvent). (tt, (tt, tt))) [] s.machine.agenda)),
-  ((all_from (λ front. IsOfBytes (file_layout front)) FileIsOfBytes (λ front f file. (tt, (tt, (tt, (file.name, (tt, file.digest)))))) [] s.files is.files, tt),
-  ((all_from (λ front. IsOfBytes (break_layout front)) (λ (b : BreakPart). AreBytes b.actions) (λ front b actions. (tt, (tt, actions))) [] s.watch.breaks is.breaks,
-  all_from (λ front. IsOfBytes expect_layout) ExpectIsOfBytes (λ front e expect. (tt, (expect.text, expect.actions))) [] s.watch.expects is.expects),
-  (is.tail,
-  all_fit (λ front. IsOfBytes (send_layout front)) (λ front (x : SavedSend). (tt, tt)) [] s.watch.sends)))),
+  (
+    (
+      (((tt, (words_are s.machine.cpu.acs, (tt, tt))), ((tt, (tt, (tt, (tt, tt)))), (tt, tt))), words_are s.machine.words),
+      (
+        all_fit (λ front. IsOfBytes (unit_layout front)) (λ front (u : UnitPart). (tt, all_fit (λ front. IsOfBytes (register_layout (kind_at u.position) front)) (λ front r. tt) [] u.registers)) [] s.machine.units,
+        all_fit (λ front. IsOfBytes (event_layout front)) (λ front (e : SavedEvent). (tt, (tt, tt))) [] s.machine.agenda,
+      ),
+    ),
+    (
+      (all_from (λ front. IsOfBytes (file_layout front)) FileIsOfBytes (λ front f file. (tt, (tt, (tt, (file.name, (tt, file.digest)))))) [] s.files is.files, tt),
+      (
+        (
+          all_from (λ front. IsOfBytes (break_layout front)) (λ (b : BreakPart). AreBytes b.actions) (λ front b actions. (tt, (tt, actions))) [] s.watch.breaks is.breaks,
+          all_from (λ front. IsOfBytes expect_layout) ExpectIsOfBytes (λ front e expect. (tt, (expect.text, expect.actions))) [] s.watch.expects is.expects,
+        ),
+        (
+          is.tail,
+          all_fit (λ front. IsOfBytes (send_layout front)) (λ front (x : SavedSend). (tt, tt)) [] s.watch.sends,
+        ),
+      ),
+    ),
+  ),
 )
 
 number_bytes : (n : ℕ) → AreBytes (to_be_bytes w32 n)

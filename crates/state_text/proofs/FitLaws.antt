@@ -76,13 +76,29 @@ pub rows_fit : (s : State) → Fits s → RowsFit state_rows (state_fields s)
 unfolding cpu_layout registers_layout
 rows_fit s fits = (
   (tt, tt),
-  (((((tt, (words_fit s.machine.cpu.acs, (tt, tt))), ((tt, (tt, (tt, (tt, tt)))), (tt, tt))), words_fit s.machine.words),
-  ((fits.machine.units,
-  all_from (λ front. RowsFit (unit_layout front)) (λ (u : UnitPart). length u.registers < 2 ^ 8) (λ front u few. (tt, (few, all_fit (λ front. RowsFit (register_layout (kind_at u.position) front)) (λ front r. tt) [] u.registers))) [] s.machine.units fits.machine.registers),
-  (fits.machine.agenda, all_fit (λ front. RowsFit (event_layout front)) (λ front (e : SavedEvent). (tt, (tt, tt))) [] s.machine.agenda))),
-  (((fits.files, all_from (λ front. RowsFit (file_layout front)) (λ (f : FilePart). length f.name < 2 ^ 16) (λ front f short. (tt, (tt, (tt, (short, (tt, tt)))))) [] s.files fits.names), tt),
-  (((fits.watch.breaks, all_from (λ front. RowsFit (break_layout front)) (λ (b : BreakPart). length b.actions < 2 ^ 16) (λ front b short. (tt, (tt, short))) [] s.watch.breaks fits.watch.actions),
-  (fits.watch.expects, all_from (λ front. RowsFit expect_layout) ExpectFits (λ front e both. (tt, (both.0, both.1))) [] s.watch.expects fits.watch.texts)),
-  (fits.watch.tail,
-  (fits.watch.sends, all_fit (λ front. RowsFit (send_layout front)) (λ front (x : SavedSend). (tt, tt)) [] s.watch.sends))))),
+  (
+    (
+      (((tt, (words_fit s.machine.cpu.acs, (tt, tt))), ((tt, (tt, (tt, (tt, tt)))), (tt, tt))), words_fit s.machine.words),
+      (
+        (
+          fits.machine.units,
+          all_from (λ front. RowsFit (unit_layout front)) (λ (u : UnitPart). length u.registers < 2 ^ 8) (λ front u few. (tt, (few, all_fit (λ front. RowsFit (register_layout (kind_at u.position) front)) (λ front r. tt) [] u.registers))) [] s.machine.units fits.machine.registers,
+        ),
+        (fits.machine.agenda, all_fit (λ front. RowsFit (event_layout front)) (λ front (e : SavedEvent). (tt, (tt, tt))) [] s.machine.agenda),
+      ),
+    ),
+    (
+      ((fits.files, all_from (λ front. RowsFit (file_layout front)) (λ (f : FilePart). length f.name < 2 ^ 16) (λ front f short. (tt, (tt, (tt, (short, (tt, tt)))))) [] s.files fits.names), tt),
+      (
+        (
+          (fits.watch.breaks, all_from (λ front. RowsFit (break_layout front)) (λ (b : BreakPart). length b.actions < 2 ^ 16) (λ front b short. (tt, (tt, short))) [] s.watch.breaks fits.watch.actions),
+          (fits.watch.expects, all_from (λ front. RowsFit expect_layout) ExpectFits (λ front e both. (tt, (both.0, both.1))) [] s.watch.expects fits.watch.texts),
+        ),
+        (
+          fits.watch.tail,
+          (fits.watch.sends, all_fit (λ front. RowsFit (send_layout front)) (λ front (x : SavedSend). (tt, tt)) [] s.watch.sends),
+        ),
+      ),
+    ),
+  ),
 )

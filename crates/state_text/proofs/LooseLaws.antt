@@ -24,8 +24,10 @@ loose_cpu : (c : SavedCpu) → CpuHasWidths c → Has (loose cpu_layout) c
 unfolding cpu_layout
 loose_cpu c is = (
   ((is.size_k, refl), ((is.four, loose_words c.acs is.acs), ((is.carry, refl), (is.pc, refl)))),
-  (((is.on, refl), ((is.hold, refl), ((is.mask, refl), ((is.sr, refl), (is.stop_dev, refl))))),
-  ((is.time, refl), (is.keys_taken, refl))),
+  (
+    ((is.on, refl), ((is.hold, refl), ((is.mask, refl), ((is.sr, refl), (is.stop_dev, refl))))),
+    ((is.time, refl), (is.keys_taken, refl)),
+  ),
 )
 
 -- what its widths say, and that its own list is not too long
@@ -66,14 +68,28 @@ pub is_loose : (s : State) → Fits s → HasWidths s → Has (loose state_layou
 unfolding state_layout
 is_loose s fits wide = (
   (tt, omega arith),
-  (((loose_cpu s.machine.cpu wide.cpu, (fits.machine.size, loose_words s.machine.words wide.words)),
-  (((fits.machine.units, refl), all_from (λ front. Has (loose (unit_layout front))) LooseUnit loose_unit [] s.machine.units (both_hold UnitHasWidths (λ (u : UnitPart). length u.registers < 2 ^ 8) s.machine.units wide.units fits.machine.registers)),
-  ((fits.machine.agenda, refl), all_from (λ front. Has (loose (event_layout front))) EventHasWidths loose_event [] s.machine.agenda wide.agenda))),
-  ((((fits.files, refl), all_from (λ front. Has (loose (file_layout front))) LooseFile loose_file [] s.files (both_hold FileHasWidths (λ (f : FilePart). length f.name < 2 ^ 16) s.files wide.files fits.names)), (wide.port, refl)),
-  ((((fits.watch.breaks, refl), all_from (λ front. Has (loose (break_layout front))) LooseBreak loose_break [] s.watch.breaks (both_hold BreakHasWidths (λ (b : BreakPart). length b.actions < 2 ^ 16) s.watch.breaks wide.breaks fits.watch.actions)),
-  ((fits.watch.expects, refl), all_from (λ front. Has (loose expect_layout)) LooseExpect (λ front x. loose_expect x) [] s.watch.expects (both_hold ExpectHasWidths ExpectFits s.watch.expects wide.expects fits.watch.texts))),
-  (((fits.watch.tail, refl), (wide.tail, refl)),
-  ((fits.watch.sends, refl), all_from (λ front. Has (loose (send_layout front))) SendHasWidths loose_send [] s.watch.sends wide.sends))))),
+  (
+    (
+      (loose_cpu s.machine.cpu wide.cpu, (fits.machine.size, loose_words s.machine.words wide.words)),
+      (
+        ((fits.machine.units, refl), all_from (λ front. Has (loose (unit_layout front))) LooseUnit loose_unit [] s.machine.units (both_hold UnitHasWidths (λ (u : UnitPart). length u.registers < 2 ^ 8) s.machine.units wide.units fits.machine.registers)),
+        ((fits.machine.agenda, refl), all_from (λ front. Has (loose (event_layout front))) EventHasWidths loose_event [] s.machine.agenda wide.agenda),
+      ),
+    ),
+    (
+      (((fits.files, refl), all_from (λ front. Has (loose (file_layout front))) LooseFile loose_file [] s.files (both_hold FileHasWidths (λ (f : FilePart). length f.name < 2 ^ 16) s.files wide.files fits.names)), (wide.port, refl)),
+      (
+        (
+          ((fits.watch.breaks, refl), all_from (λ front. Has (loose (break_layout front))) LooseBreak loose_break [] s.watch.breaks (both_hold BreakHasWidths (λ (b : BreakPart). length b.actions < 2 ^ 16) s.watch.breaks wide.breaks fits.watch.actions)),
+          ((fits.watch.expects, refl), all_from (λ front. Has (loose expect_layout)) LooseExpect (λ front x. loose_expect x) [] s.watch.expects (both_hold ExpectHasWidths ExpectFits s.watch.expects wide.expects fits.watch.texts)),
+        ),
+        (
+          ((fits.watch.tail, refl), (wide.tail, refl)),
+          ((fits.watch.sends, refl), all_from (λ front. Has (loose (send_layout front))) SendHasWidths loose_send [] s.watch.sends wide.sends),
+        ),
+      ),
+    ),
+  ),
 )
 
 pub one-to-one : OneToOne

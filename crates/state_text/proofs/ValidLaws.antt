@@ -62,8 +62,10 @@ pub cpu_from : (c : SavedCpu) → IsCpu c → Has cpu_layout c
 unfolding cpu_layout
 cpu_from c is = (
   ((small_size c.size_k is.size_k, is.size_k), ((is.few, words_from c.acs is.acs), ((small_flag c.carry is.carry, is.carry), (small_address c.pc is.pc, is.pc)))),
-  (((small_flag c.on is.on, is.on), ((small_flag c.hold is.hold, is.hold), ((is.mask, refl), ((is.sr, refl), (small_flag c.stop_dev is.stop_dev, is.stop_dev))))),
-  ((small_time c.time is.time, is.time), (small_key_count c.keys_taken is.keys_taken, is.keys_taken))),
+  (
+    ((small_flag c.on is.on, is.on), ((small_flag c.hold is.hold, is.hold), ((is.mask, refl), ((is.sr, refl), (small_flag c.stop_dev is.stop_dev, is.stop_dev))))),
+    ((small_time c.time is.time, is.time), (small_key_count c.keys_taken is.keys_taken, is.keys_taken)),
+  ),
 )
 
 -- ---- bytes that are sent
@@ -98,8 +100,10 @@ unit_from : (before : List UnitPart) (u : UnitPart) → IsUnit (length before) u
 unfolding registers_layout
 unit_from before u is = (
   (is.byte, eq-eqb u.position (length before) is.position),
-  ((below (length u.registers) (register_count (kind_at u.position)) is.all (few_registers (kind_at u.position)), eq-eqb (length u.registers) (register_count (kind_at u.position)) is.all),
-  follows_from (λ front. Has (register_layout (kind_at u.position) front)) (CanHold (kind_at u.position)) next_number (λ (front : List ℕ). length front) (λ front x. numbers_step front x) (λ front x holds. holds) [] u.registers is.registers),
+  (
+    (below (length u.registers) (register_count (kind_at u.position)) is.all (few_registers (kind_at u.position)), eq-eqb (length u.registers) (register_count (kind_at u.position)) is.all),
+    follows_from (λ front. Has (register_layout (kind_at u.position) front)) (CanHold (kind_at u.position)) next_number (λ (front : List ℕ). length front) (λ front x. numbers_step front x) (λ front x holds. holds) [] u.registers is.registers,
+  ),
 )
 
 -- ---- events
@@ -181,10 +185,16 @@ file_to before f h = record {
 file_from : (before : List FilePart) (f : FilePart) → IsFile (place_behind before) f → Has (file_layout before) f
 file_from before f is = (
   (is.byte, is.position),
-  ((small_unit (kind_at f.position) f.unit (nat_lt (place_behind before).position f.position || nat_le (place_behind before).unit f.unit) is.unit, is.unit),
-  ((small_read_only (kind_at f.position) f.read_only is.read_only, is.read_only),
-  (((small_name (length f.name) is.long, is.long), (is.name, is.utf8)),
-  ((small_length (kind_at f.position) f.size is.size, is.size), ((is.digest, is.bytes), refl))))),
+  (
+    (small_unit (kind_at f.position) f.unit (nat_lt (place_behind before).position f.position || nat_le (place_behind before).unit f.unit) is.unit, is.unit),
+    (
+      (small_read_only (kind_at f.position) f.read_only is.read_only, is.read_only),
+      (
+        ((small_name (length f.name) is.long, is.long), (is.name, is.utf8)),
+        ((small_length (kind_at f.position) f.size is.size, is.size), ((is.digest, is.bytes), refl)),
+      ),
+    ),
+  ),
 )
 
 place_step : (front : List FilePart) (f : FilePart) → place_behind (with_last front f) ≡ behind_file (place_behind front) f
@@ -279,16 +289,38 @@ pub state_from : (s : State) → Valid s → Has state_layout s
 unfolding state_layout
 state_from s is = (
   (tt, omega arith),
-  (((cpu_from s.machine.cpu is.machine.cpu, (is.machine.size, words_from s.machine.words is.machine.words)),
-  (((ten (length s.machine.units) is.machine.all, eq-eqb (length s.machine.units) standard_kinds is.machine.all),
-  follows_from (λ front. Has (unit_layout front)) IsUnit next_number (λ (front : List UnitPart). length front) (λ front x. numbers_step front x) unit_from [] s.machine.units is.machine.units),
-  ((small_events (length s.machine.agenda) is.machine.few, is.machine.few),
-  follows_from (λ front. Has (event_layout front)) IsEvent with_event (λ (front : List SavedEvent). front) (λ front x. refl) event_from [] s.machine.agenda is.machine.agenda))),
-  ((((is.files.few, refl), follows_from (λ front. Has (file_layout front)) IsFile behind_file place_behind place_step file_from [] s.files is.files.each), (is.port, refl)),
-  ((((small_breaks (length s.watch.breaks) is.watch.few_breaks, is.watch.few_breaks),
-  follows_from (λ front. Has (break_layout front)) IsBreak behind_break address_behind address_step break_from [] s.watch.breaks is.watch.breaks),
-  ((small_expects (length s.watch.expects) is.watch.few_expects, is.watch.few_expects), all_from (λ front. Has expect_layout) IsExpect (λ front x. expect_from x) [] s.watch.expects is.watch.expects)),
-  (((small_tail (length s.watch.tail) is.watch.short_tail, is.watch.short_tail), (is.watch.tail, refl)),
-  ((small_sends (length s.watch.sends) is.watch.few_sends, is.watch.few_sends),
-  follows_from (λ front. Has (send_layout front)) IsSend behind_send time_behind time_step send_from [] s.watch.sends is.watch.sends))))),
+  (
+    (
+      (cpu_from s.machine.cpu is.machine.cpu, (is.machine.size, words_from s.machine.words is.machine.words)),
+      (
+        (
+          (ten (length s.machine.units) is.machine.all, eq-eqb (length s.machine.units) standard_kinds is.machine.all),
+          follows_from (λ front. Has (unit_layout front)) IsUnit next_number (λ (front : List UnitPart). length front) (λ front x. numbers_step front x) unit_from [] s.machine.units is.machine.units,
+        ),
+        (
+          (small_events (length s.machine.agenda) is.machine.few, is.machine.few),
+          follows_from (λ front. Has (event_layout front)) IsEvent with_event (λ (front : List SavedEvent). front) (λ front x. refl) event_from [] s.machine.agenda is.machine.agenda,
+        ),
+      ),
+    ),
+    (
+      (((is.files.few, refl), follows_from (λ front. Has (file_layout front)) IsFile behind_file place_behind place_step file_from [] s.files is.files.each), (is.port, refl)),
+      (
+        (
+          (
+            (small_breaks (length s.watch.breaks) is.watch.few_breaks, is.watch.few_breaks),
+            follows_from (λ front. Has (break_layout front)) IsBreak behind_break address_behind address_step break_from [] s.watch.breaks is.watch.breaks,
+          ),
+          ((small_expects (length s.watch.expects) is.watch.few_expects, is.watch.few_expects), all_from (λ front. Has expect_layout) IsExpect (λ front x. expect_from x) [] s.watch.expects is.watch.expects),
+        ),
+        (
+          ((small_tail (length s.watch.tail) is.watch.short_tail, is.watch.short_tail), (is.watch.tail, refl)),
+          (
+            (small_sends (length s.watch.sends) is.watch.few_sends, is.watch.few_sends),
+            follows_from (λ front. Has (send_layout front)) IsSend behind_send time_behind time_step send_from [] s.watch.sends is.watch.sends,
+          ),
+        ),
+      ),
+    ),
+  ),
 )

@@ -30,8 +30,10 @@ const KEPT: usize = 33;
 
 type Start = Both<One<HeadFormat>, One<VersionFormat>>;
 
-type Machine =
-    Both<Measured<CpuFormat, WordFormat>, Both<Elements<UnitFormat>, Elements<EventFormat>>>;
+type Machine = Both<
+    Measured<CpuFormat, WordFormat>,
+    Both<Elements<UnitFormat>, Elements<EventFormat>>,
+>;
 
 type Tables = Both<
     Both<Elements<BreakFormat>, Elements<ExpectFormat>>,
@@ -39,16 +41,25 @@ type Tables = Both<
 >;
 
 /// The parts of a state file, in their order.
-pub type Parts = Both<Start, Both<Machine, Both<Both<Elements<FileFormat>, One<WordFormat>>, Tables>>>;
+pub type Parts = Both<
+    Start,
+    Both<Machine, Both<Both<Elements<FileFormat>, One<WordFormat>>, Tables>>,
+>;
 
 /// What was read of the machine.
 type FoundMachine = ((SavedCpu, Vec<u16>), (Vec<SavedUnit>, Vec<SavedEvent>));
 
 /// What was read of what a run watches.
-type FoundTables = ((Vec<SavedBreak>, Vec<SavedExpect>), (Vec<u8>, Vec<SavedSend>));
+type FoundTables = (
+    (Vec<SavedBreak>, Vec<SavedExpect>),
+    (Vec<u8>, Vec<SavedSend>),
+);
 
 /// What was read of all parts.
-type Found = (((), ()), (FoundMachine, ((Vec<SavedFile>, u16), FoundTables)));
+type Found = (
+    ((), ()),
+    (FoundMachine, ((Vec<SavedFile>, u16), FoundTables)),
+);
 
 /// Reads a state file that comes in pieces. It keeps what the file says so far, and of the file's bytes only those that
 /// came and are not read yet: at most the last piece, of 4096 bytes, and 582 bytes before it, since the longest record,

@@ -16,11 +16,14 @@ use std::alloc::{AllocError, Global};
 
 /// How many breaks, texts that are waited for and bytes that are sent there are at most.
 const MOST_BREAKS: u16 = 256;
+
 const MOST_EXPECTS: u8 = 64;
+
 const MOST_SENDS: u16 = 4096;
 
 /// How many bytes actions and a text that is waited for have at most.
 const LONGEST_ACTIONS: u16 = 512;
+
 const LONGEST_TEXT: u8 = 64;
 
 /// When the last byte is sent at the latest.

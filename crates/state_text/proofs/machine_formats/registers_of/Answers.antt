@@ -28,5 +28,5 @@ loop-i-preserved c =
     rw c.in_ok-push.ensures.items (
       omega (arith, c.loop-i.invariant.0, length-append front (value ∷ [])),
       goes_on (λ (front : List ℕ). reading (register_layout c.args.kind front)) with_last front c.args.count c.loop-i.i front c.loop-i.cursor value c.register.new.cursor
-      (chain (λ (front : List ℕ). reading (register_layout c.args.kind front)) with_last c.args.count [] c.args.cursor.now) c.loop-i-test.true read c.loop-i.invariant.1,
+          (chain (λ (front : List ℕ). reading (register_layout c.args.kind front)) with_last c.args.count [] c.args.cursor.now) c.loop-i-test.true read c.loop-i.invariant.1,
     )
