@@ -1,5 +1,5 @@
 // A part, and another behind it.
-ghost use Rattle.std.specs.Prelude.{◌≡◌, ◌&&◌};
+ghost use Rattle.std.specs.Prelude.{◌≡◌, ◌&&◌, true};
 ghost use Rattle.byte_layouts.specs.Layout.{◌&◌};
 ghost use Rattle.byte_layouts.specs.Parts.{GoesOn, both};
 
@@ -13,6 +13,20 @@ use std::alloc::Global;
 pub struct Both<A: Part, B: Part> {
     first: A,
     second: B,
+}
+
+// Reads on in a part, and in the one behind it once it is over.
+pub fn go_on_both<A: Part, B: Part>(
+    alloc: Global,
+    pending: &mut Pending,
+    first: &mut A,
+    second: &mut B,
+) -> Result<(), FieldFault>
+    ensures { GoesOn ((A.is_over first.new && B.is_over second.new) ≡ true) result (both (A.rest first.old) (B.rest second.old))
+        (both (A.rest first.new) (B.rest second.new)) pending.old pending.new }
+{
+    first.go_on(alloc, pending)?;
+    second.go_on(alloc, pending)
 }
 
 impl<A: Part, B: Part> Part for Both<A, B> {
@@ -36,8 +50,7 @@ impl<A: Part, B: Part> Part for Both<A, B> {
     }
 
     fn go_on(&mut self, alloc: Global, pending: &mut Pending) -> Result<(), FieldFault> {
-        self.first.go_on(alloc, pending)?;
-        self.second.go_on(alloc, pending)
+        go_on_both(alloc, pending, &mut self.first, &mut self.second)
     }
 
     fn finish(self) -> (A::Output, B::Output) {

@@ -13,6 +13,7 @@ pub mod part;
 pub mod pending;
 pub mod reading;
 pub mod stage;
+pub mod three;
 pub mod trying;
 
 pub use both::Both;
@@ -26,3 +27,4 @@ pub use one::One;
 pub use part::Part;
 pub use pending::Pending;
 pub use reading::{Fed, Reading, read_whole};
+pub use three::Three;
