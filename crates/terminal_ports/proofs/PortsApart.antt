@@ -86,6 +86,27 @@ none-given zero (l ∷ lines) line none are =
     (λ own. absurd (let e : None ≡ Some 0 = sym none ∙ own in cc), (all-none line.port lines none, are.1.1))
 none-given (suc place) (l ∷ lines) line none are = (are.0, (none-set l.port place lines line (other-none l.port line none) are.1.0, none-given place lines line none are.1.1))
 
+-- where no other line has a port, one may get any but 0
+no-others : {P : Type 0} (port : ℕ) (lines : List (LineOf P)) → ((p : ℕ) (q : Option ℕ) → slice_get (ports lines) p ≡ Some q → q ≡ None) → OthersHaveNone (Some port) lines
+no-others port [] none = tt
+no-others port (l ∷ lines) none = (other-none (Some port) l (none 0 l.port refl), no-others port lines (λ p q at. none (suc p) q at))
+
+pub given-apart : {P : Type 0} (place : ℕ) (lines : List (LineOf P)) (line : LineOf P) (port : ℕ) → slice_get lines place ≡ Some line → port ≢ 0
+    → ((p : ℕ) (q : Option ℕ) → p ≢ place → slice_get (ports lines) p ≡ Some q → q ≡ None) → HavePortsApart lines
+    → HavePortsApart (slice_set lines place (unconnected (Some port)))
+given-apart place [] line port at some none are = tt
+given-apart zero (l ∷ lines) line port at some none are =
+    (λ own. some (same_Some port 0 own), (no-others port lines (λ p q is. none (suc p) q (λ same. absurd (omega (arith, same))) is), are.1.1))
+given-apart {P} (suc place) (l ∷ lines) line port at some none are =
+    let free : l.port ≡ None = none 0 l.port (λ same. absurd (omega (arith, same))) refl in
+    (
+      are.0,
+      (
+        all-none l.port (slice_set lines place (unconnected (Some port))) free,
+        given-apart place lines line port at some (λ p q other is. none (suc p) q (λ same. other (omega (arith, same))) is) are.1.1,
+      ),
+    )
+
 -- a line that keeps its port
 same-port : {P : Type 0} (lines : List (LineOf P)) (place : ℕ) (line after : LineOf P) → slice_get lines place ≡ Some line → after.port ≡ line.port
     → ports (slice_set lines place after) ≡ ports lines
