@@ -14,7 +14,7 @@ use Rattle.telnet_lines.proofs.Several.{stand_apart}
 use Rattle.telnet_lines.proofs.Apart.{is_or_not, same_kind, still_has, recorded_after}
 use Rattle.terminal_ports.specs.Ports.{changed_at, HasOther, OthersHaveNone, HavePortsApart}
 use Rattle.terminal_ports.specs.Listening.{IsListening}
-use Rattle.terminal_ports.proofs.PortsApart.{changed-set, changed-none, changed-same, set-same, apart-by, none-given, given-apart}
+use Rattle.terminal_ports.proofs.PortsApart.{changed-set, changed-none, changed-same, set-same, apart-by, none-given, given-apart, only-by, only-set, only-closed}
 use Rattle.host_lines.specs.declared.lines.ListenFault.{ListenFault}
 use Rattle.host_lines.specs.declared.lines.ListenFault.TheVariants as listen
 use Rattle.nova_machine.specs.LineChanges.{ports_of, HaveNoPort, HasConnection, AreLinesTold, LinesGoOn}
@@ -114,35 +114,19 @@ same-many [] place after = refl
 same-many (l ∷ lines) zero after = refl
 same-many (l ∷ lines) (suc place) after = let more = same-many lines place after in omega (arith, more)
 
--- what ports there are, once one line has none any more, and once one line has another
-none-more : (lines : List (LineOf ℕ)) (place : ℕ) (after : LineOf ℕ) → after.port ≡ None → (p : ℕ) (q : Option ℕ)
-    → slice_get (ports_of (slice_set lines place after)) p ≡ Some q → (q ≡ None) ⊎ (slice_get (ports_of lines) p ≡ Some q)
-none-more [] place after free p q at = inr at
-none-more (l ∷ lines) zero after free zero q at = inl (sym (same_Some after.port q at) ∙ free)
-none-more (l ∷ lines) zero after free (suc p) q at = inr at
-none-more (l ∷ lines) (suc place) after free zero q at = inr at
-none-more (l ∷ lines) (suc place) after free (suc p) q at = none-more lines place after free p q at
-
-other-ports : (lines : List (LineOf ℕ)) (place : ℕ) (after : LineOf ℕ) (p : ℕ) → p ≢ place → slice_get (ports_of (slice_set lines place after)) p ≡ slice_get (ports_of lines) p
-other-ports [] place after p other = refl
-other-ports (l ∷ lines) zero after zero other = absurd (other refl)
-other-ports (l ∷ lines) zero after (suc p) other = refl
-other-ports (l ∷ lines) (suc place) after zero other = refl
-other-ports (l ∷ lines) (suc place) after (suc p) other = other-ports lines place after p (λ same. other (ap suc same))
-
 -- lines with the same ports
 pub session-by : {P Q : Type 0} (lines : List (LineOf P)) (others : List (LineOf Q)) → ports_of others ≡ ports_of lines → AreSessionLines lines → AreSessionLines others
 session-by lines others same own = record {
   apart = apart-by lines others same own.apart;
-  others = λ place port other at. own.others place port other (ap (λ (ps : List (Option ℕ)). slice_get ps place) (sym same) ∙ at);
+  others = only-by terminal_place lines others same own.others;
 }
 
 -- the second teletype gets a port
-pub session-listened : (lines : List (LineOf ℕ)) (line : LineOf ℕ) (port : ℕ) → slice_get lines terminal_place ≡ Some line → port ≢ 0 → AreSessionLines lines
+pub session-listened : (lines : List (LineOf ℕ)) (port : ℕ) → port ≢ 0 → AreSessionLines lines
     → AreSessionLines (slice_set lines terminal_place (unconnected (Some port)))
-session-listened lines line port at some own = record {
-  apart = given-apart terminal_place lines line port at some own.others own.apart;
-  others = λ p q other is. own.others p q other (sym (other-ports lines terminal_place (unconnected (Some port)) p other) ∙ is);
+session-listened lines port some own = record {
+  apart = given-apart terminal_place lines port some own.others own.apart;
+  others = only-set terminal_place lines (unconnected (Some port)) own.others;
 }
 
 -- ---- calls one behind another
@@ -315,7 +299,7 @@ module _ (place : ℕ) (tells : Bool) (port : Option ℕ) (old new : LineState) 
   still-session own = elim gives.which [
     | inl closes ↦ record {
       apart = none-given place lines after closes.1 own.apart;
-      others = λ p q other at. elim (none-more lines place after closes.1 p q at) [ inl none ↦ none | inr was ↦ own.others p q other was ];
+      others = only-closed place terminal_place lines after closes.1 own.others;
     }
     | inr keeps ↦ session-by lines (slice_set lines place after) (same-ports lines place line after at keeps.1) own
   ]

@@ -1,5 +1,5 @@
 -- What a command leaves of the ports and the connections of the outside, told or not.
-use Rattle.std.specs.Prelude.{◌≡◌, ◌≢◌, ◌⊎◌, ◌≤◌, ℕ, Bool, true, false, IsTrue, List, [], ◌∷◌, length, map, slice_get, Option, Some, None, IfSome, Result, Ok, Err}
+use Rattle.std.specs.Prelude.{◌≡◌, ◌≢◌, ◌⊎◌, ◌≤◌, ℕ, Bool, true, false, IsTrue, List, [], ◌∷◌, length, map, Option, Some, None, IfSome, Result, Ok, Err}
 use Rattle.std.specs.List.{AllByRecursion}
 use Rattle.fault_counts.specs.Faults.{raised}
 use Rattle.host_lines.specs.Traffic.{Peer}
@@ -10,9 +10,9 @@ use Rattle.host_lines.specs.State.{LineState, IsListened, parties, without_one}
 use Rattle.telnet_lines.specs.Line.{LineOf, unconnected}
 use Rattle.telnet_lines.specs.Joined.{seen_line}
 use Rattle.telnet_lines.specs.Many.{AreApart}
-use Rattle.terminal_ports.specs.Ports.{HavePortsApart}
+use Rattle.terminal_ports.specs.Ports.{HavePortsApart, OnlyOneHas}
 use Rattle.terminal_ports.specs.Listening.{IsListening}
-use Rattle.nova_machine.specs.LineChanges.{ports_of, HasConnection, HearsOn}
+use Rattle.nova_machine.specs.LineChanges.{HasConnection, HearsOn}
 use Rattle.scp_parser.specs.Command.{Request, AttachPort, Restore}
 use Rattle.command_session.specs.declared.next.Next.TheVariants.{Go}
 use Rattle.command_session.specs.declared.fault.CommandFault.TheVariants.{OutOfMemory, OutOfRange, PortFailed, AlreadyAttached, NotAttached}
@@ -32,7 +32,7 @@ AreListened s lines = AllByRecursion (λ (line : LineOf ℕ). IfSome line.port (
 -- line, that of the console too, has none.
 pub record AreSessionLines {P : Type 0} (lines : List (LineOf P)) : Type 0 where
   pub apart : HavePortsApart lines
-  pub others : (place : ℕ) (port : Option ℕ) → place ≢ terminal_place → slice_get (ports_of lines) place ≡ Some port → port ≡ None
+  pub others : OnlyOneHas terminal_place lines
 
 -- What a call leaves: each port that is listened on and each connection that stands is one that a line has, or was there
 -- before and no line's; the count of faults has not fallen. Lines of a session stay such, and then the port of each line is

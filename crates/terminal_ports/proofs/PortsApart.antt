@@ -3,7 +3,7 @@ use Rattle.std.proofs.Common.{◌≡◌, ◌≢◌, ℕ, zero, suc, List, [], �
 use Rattle.std.proofs.lemmas.Option.{same_Some}
 use Rattle.std.specs.List.{AllByRecursion}
 use Rattle.telnet_lines.specs.Line.{LineOf, unconnected}
-use Rattle.terminal_ports.specs.Ports.{changed_at, HasOther, OthersHaveNone, HavePortsApart}
+use Rattle.terminal_ports.specs.Ports.{changed_at, HasOther, OthersHaveNone, HavePortsApart, HaveNone, OnlyOneHas}
 
 -- ---- the line at a place
 
@@ -87,25 +87,54 @@ none-given zero (l ∷ lines) line none are =
 none-given (suc place) (l ∷ lines) line none are = (are.0, (none-set l.port place lines line (other-none l.port line none) are.1.0, none-given place lines line none are.1.1))
 
 -- where no other line has a port, one may get any but 0
-no-others : {P : Type 0} (port : ℕ) (lines : List (LineOf P)) → ((p : ℕ) (q : Option ℕ) → slice_get (ports lines) p ≡ Some q → q ≡ None) → OthersHaveNone (Some port) lines
+no-others : {P : Type 0} (port : ℕ) (lines : List (LineOf P)) → HaveNone lines → OthersHaveNone (Some port) lines
 no-others port [] none = tt
-no-others port (l ∷ lines) none = (other-none (Some port) l (none 0 l.port refl), no-others port lines (λ p q at. none (suc p) q at))
+no-others port (l ∷ lines) none = (other-none (Some port) l none.0, no-others port lines none.1)
 
-pub given-apart : {P : Type 0} (place : ℕ) (lines : List (LineOf P)) (line : LineOf P) (port : ℕ) → slice_get lines place ≡ Some line → port ≢ 0
-    → ((p : ℕ) (q : Option ℕ) → p ≢ place → slice_get (ports lines) p ≡ Some q → q ≡ None) → HavePortsApart lines
+pub given-apart : {P : Type 0} (place : ℕ) (lines : List (LineOf P)) (port : ℕ) → port ≢ 0 → OnlyOneHas place lines → HavePortsApart lines
     → HavePortsApart (slice_set lines place (unconnected (Some port)))
-given-apart place [] line port at some none are = tt
-given-apart zero (l ∷ lines) line port at some none are =
-    (λ own. some (same_Some port 0 own), (no-others port lines (λ p q is. none (suc p) q (λ same. absurd (omega (arith, same))) is), are.1.1))
-given-apart {P} (suc place) (l ∷ lines) line port at some none are =
-    let free : l.port ≡ None = none 0 l.port (λ same. absurd (omega (arith, same))) refl in
-    (
-      are.0,
-      (
-        all-none l.port (slice_set lines place (unconnected (Some port))) free,
-        given-apart place lines line port at some (λ p q other is. none (suc p) q (λ same. other (omega (arith, same))) is) are.1.1,
-      ),
-    )
+given-apart place [] port some none are = tt
+given-apart zero (l ∷ lines) port some none are = (λ own. some (same_Some port 0 own), (no-others port lines none, are.1.1))
+given-apart (suc place) (l ∷ lines) port some none are =
+    (are.0, (all-none l.port (slice_set lines place (unconnected (Some port))) none.0, given-apart place lines port some none.1 are.1.1))
+
+-- ---- where one line has a port at the most
+
+none-same : {P Q : Type 0} (lines : List (LineOf P)) (others : List (LineOf Q)) → ports others ≡ ports lines → HaveNone lines → HaveNone others
+none-same [] [] same none = tt
+none-same [] (k ∷ others) same none = absurd (cc)
+none-same (l ∷ lines) [] same none = absurd (cc)
+none-same (l ∷ lines) (k ∷ others) same none =
+    let is : k.port ≡ l.port = cc in
+    let more : ports others ≡ ports lines = cc in
+    (is ∙ none.0, none-same lines others more none.1)
+
+pub only-by : {P Q : Type 0} (place : ℕ) (lines : List (LineOf P)) (others : List (LineOf Q)) → ports others ≡ ports lines → OnlyOneHas place lines → OnlyOneHas place others
+only-by place [] [] same only = tt
+only-by place [] (k ∷ others) same only = absurd (cc)
+only-by place (l ∷ lines) [] same only = absurd (cc)
+only-by zero (l ∷ lines) (k ∷ others) same only = let more : ports others ≡ ports lines = cc in none-same lines others more only
+only-by (suc place) (l ∷ lines) (k ∷ others) same only =
+    let is : k.port ≡ l.port = cc in
+    let more : ports others ≡ ports lines = cc in
+    (is ∙ only.0, only-by place lines others more only.1)
+
+pub only-set : {P : Type 0} (place : ℕ) (lines : List (LineOf P)) (after : LineOf P) → OnlyOneHas place lines → OnlyOneHas place (slice_set lines place after)
+only-set place [] after only = tt
+only-set zero (l ∷ lines) after only = only
+only-set (suc place) (l ∷ lines) after only = (only.0, only-set place lines after only.1)
+
+none-set-none : {P : Type 0} (place : ℕ) (lines : List (LineOf P)) (after : LineOf P) → after.port ≡ None → HaveNone lines → HaveNone (slice_set lines place after)
+none-set-none place [] after free none = tt
+none-set-none zero (l ∷ lines) after free none = (free, none.1)
+none-set-none (suc place) (l ∷ lines) after free none = (none.0, none-set-none place lines after free none.1)
+
+pub only-closed : {P : Type 0} (place q : ℕ) (lines : List (LineOf P)) (after : LineOf P) → after.port ≡ None → OnlyOneHas q lines → OnlyOneHas q (slice_set lines place after)
+only-closed place q [] after free only = tt
+only-closed zero zero (l ∷ lines) after free only = only
+only-closed (suc place) zero (l ∷ lines) after free only = none-set-none place lines after free only
+only-closed zero (suc q) (l ∷ lines) after free only = (free, only.1)
+only-closed (suc place) (suc q) (l ∷ lines) after free only = (only.0, only-closed place q lines after free only.1)
 
 -- a line that keeps its port
 same-port : {P : Type 0} (lines : List (LineOf P)) (place : ℕ) (line after : LineOf P) → slice_get lines place ≡ Some line → after.port ≡ line.port

@@ -22,3 +22,12 @@ OthersHaveNone port lines = AllByRecursion (HasOther port) lines
 abbrev pub HavePortsApart : {P : Type 0} → List (LineOf P) → Type 0
 HavePortsApart [] = Unit {0}
 HavePortsApart (line ∷ others) = (line.port ≢ Some 0) × (OthersHaveNone line.port others × HavePortsApart others)
+
+-- no line has a port but the one at that place
+abbrev pub HaveNone : {P : Type 0} → List (LineOf P) → Type 0
+HaveNone {P} lines = AllByRecursion (λ (line : LineOf P). line.port ≡ None) lines
+
+abbrev pub OnlyOneHas : {P : Type 0} → ℕ → List (LineOf P) → Type 0
+OnlyOneHas place [] = Unit {0}
+OnlyOneHas zero (line ∷ others) = HaveNone others
+OnlyOneHas (suc place) (line ∷ others) = (line.port ≡ None) × OnlyOneHas place others
