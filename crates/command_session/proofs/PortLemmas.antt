@@ -495,6 +495,14 @@ apart-still old new lines kind same apart = record {
 pub seen-still : (old new : LineState) (lines : List (LineOf ℕ)) → parties new ≡ parties old → map (seen_line new) lines ≡ map (seen_line old) lines
 seen-still old new lines same = ap (λ (f : ℕ → Peer). map (renamed f) lines) same
 
+-- a line that gets a port is seen so
+pub seen-changed : (s : LineState) (place port : ℕ) (lines : List (LineOf ℕ))
+    → map (seen_line s) (changed_at place (λ (line : LineOf ℕ). unconnected (Some port)) lines)
+    ≡ changed_at place (λ (line : LineOf Peer). unconnected (Some port)) (map (seen_line s) lines)
+seen-changed s place port [] = refl
+seen-changed s zero port (line ∷ lines) = refl
+seen-changed s (suc place) port (line ∷ lines) = ap (λ (l : List (LineOf Peer)). seen_line s line ∷ l) (seen-changed s place port lines)
+
 later-raised : (count : ℕ) → count ≤ raised count
 later-raised count = omega arith
 

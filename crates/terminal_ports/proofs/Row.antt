@@ -61,12 +61,12 @@ back-again port more listens = λ i k. at k i
 pub none-listened : (tells : Bool) (n port : ℕ) (s : LineState) → n ≡ 0 → ListensEach tells (rising n port) (Ok tt) s s
 none-listened tells n port s none =
     subst (λ (ports : List ℕ). ListensEach tells ports (Ok tt) s s) (sym (row-none n port none))
-    (record { ports = record { told = λ _. refl; listens = refl }; stands = refl; behind = refl; sent = refl; counted = refl })
+    (record { row = record { told = λ _. refl; listens = refl }; stands = refl; behind = refl; sent = refl; counted = refl })
 
 module _ (tells : Bool) (n port : ℕ) (some : 0 < n) where
   pub first-refused : (fault : ListenFault) (old new : LineState) → IsListening tells port (Err fault) old new → ListensEach tells (rising n port) (Err fault) old new
   first-refused fault old new is = record {
-    ports = record {
+    row = record {
       before = [];
       refused = port;
       behind = rising (n - 1) (port + 1);
@@ -84,9 +84,9 @@ module _ (tells : Bool) (n port : ℕ) (some : 0 < n) where
       → ListensEach tells (rising n port) (Ok tt) old new
   all-listened old mid new is more =
       subst (λ (ports : List ℕ). ListensEach tells ports (Ok tt) old new) (sym (row-some n port some)) (record {
-        ports = record {
-          told = λ t. (mid.told, (is.told t, more.ports.told t));
-          listens = more.ports.listens ∙ ap (listens_each (rising (n - 1) (port + 1))) is.listens;
+        row = record {
+          told = λ t. (mid.told, (is.told t, more.row.told t));
+          listens = more.row.listens ∙ ap (listens_each (rising (n - 1) (port + 1))) is.listens;
         };
         stands = more.stands ∙ is.stands;
         behind = more.behind ∙ is.behind;
@@ -99,9 +99,9 @@ module _ (tells : Bool) (n port : ℕ) (some : 0 < n) where
       → new.told ≡ last.told → new.listens ≡ without_one port last.listens → new.stands ≡ last.stands → parties new ≡ parties last → new.sent ≡ last.sent → new.faults ≡ last.faults
       → ListensEach tells (rising n port) (Err fault) old new
   given-back fault old mid last new is more told listens stands behind sent counted =
-      let cut = more.ports in
+      let cut = more.row in
       record {
-        ports = record {
+        row = record {
           before = port ∷ cut.before;
           refused = cut.refused;
           behind = cut.behind;
@@ -132,9 +132,9 @@ one-listened tells port old new each =
     let one = subst (λ (ports : List ℕ). ListensEach tells ports (Ok tt) old new) (row-one port) each in
     record {
       told = λ t.
-          let (mid, chain) = one.ports.told t in
+          let (mid, chain) = one.row.told t in
           subst (λ (x : Told). Gives old.told x listening Quiet) (sym chain.1) chain.0;
-      listens = one.ports.listens;
+      listens = one.row.listens;
       stands = one.stands;
       behind = one.behind;
       sent = one.sent;
@@ -143,7 +143,7 @@ one-listened tells port old new each =
 
 pub one-refused : (tells : Bool) (port : ℕ) (fault : ListenFault) (old new : LineState) → ListensEach tells (rising 1 port) (Err fault) old new → IsListening tells port (Err fault) old new
 one-refused tells port fault old new each =
-    let cut = each.ports in
+    let cut = each.row in
     let none : cut.before ≡ [] = none-before port cut.refused cut.before cut.behind (sym (row-one port) ∙ cut.parts) in
     record {
       told = λ t.

@@ -60,7 +60,7 @@ LeavesPorts tells ports (Err fault) old new = OneRefused tells ports fault old n
 -- what such a row of listenings leaves of the outside
 pub record ListensEach (tells : Bool) (ports : List ℕ) (result : Result (Unit {0}) ListenFault) (old new : LineState) : Type 0
   where
-    pub ports : LeavesPorts tells ports result old new
+    pub row : LeavesPorts tells ports result old new
     pub stands : new.stands ≡ old.stands
     pub behind : parties new ≡ parties old
     pub sent : new.sent ≡ old.sent
