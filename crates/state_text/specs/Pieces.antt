@@ -17,14 +17,14 @@ use Rattle.state_text.specs.Rows.{head, this_version, word_count, word_layout, c
 -- the processor and the words
 abbrev pub rest_of_memory : StateReader → Reader Memory
 rest_of_memory r =
-    let memory = r.reading.part.second.first.first in
+    let memory = r.reading.part.second.first in
     rest_of_measured (λ (c : SavedCpu). c) word_count (reading cpu_layout) (λ front. reading word_layout) memory.head
     memory.left (map (λ (n : ℕ). n) memory.items.items)
 
 -- what a run watches
 abbrev pub rest_of_tables : StateReader → Reader Tables
 rest_of_tables r =
-    let tables = r.reading.part.second.second.second in
+    let tables = r.reading.part.third.second in
     let breaks = tables.first.first in
     let expects = tables.first.second in
     let sends = tables.second.second in
@@ -37,9 +37,9 @@ rest_of_tables r =
 abbrev pub rest_of : StateReader → Reader Fields
 rest_of r =
     let part = r.reading.part in
-    let units = part.second.first.second.first in
-    let events = part.second.first.second.second in
-    let files = part.second.second.first.first in
+    let units = part.second.second in
+    let events = part.second.third in
+    let files = part.third.first.first in
     both
     (both (rest_of_one (λ (u : Unit {0}). u) (reading (Head head)) part.first.first.item)
     (rest_of_one (λ (u : Unit {0}). u) (reading (Version this_version)) part.first.second.item))
@@ -49,7 +49,7 @@ rest_of r =
     (rest_of_list (reading (Number Two few_events)) (λ front. reading (event_layout front)) events.counted events.left (map (λ (e : SavedEvent). e) events.items.items))))
     (both
     (both (rest_of_list (reading (Number One any)) (λ front. reading (file_layout front)) files.counted files.left (map file_in files.items.items))
-    (rest_of_one (λ (n : ℕ). n) (reading word_layout) part.second.second.first.second.item))
+    (rest_of_one (λ (n : ℕ). n) (reading word_layout) part.third.first.second.item))
     (rest_of_tables r)))
 
 -- ---- what was fed

@@ -19,7 +19,7 @@ use crate::machine_formats::{
     CpuFormat, EventFormat, HeadFormat, UnitFormat, VersionFormat, WordFormat,
 };
 use crate::watch_formats::{BreakFormat, ExpectFormat, SendFormat, TailFormat};
-use byte_layouts::{Both, Elements, Measured, One, Part, Pending, Reading};
+use byte_layouts::{Both, Elements, Measured, One, Part, Pending, Reading, Three};
 use saved_session::{
     Saved, SavedBreak, SavedCpu, SavedEvent, SavedExpect, SavedFile, SavedSend, SavedUnit,
 };
@@ -30,10 +30,7 @@ const KEPT: usize = 33;
 
 type Start = Both<One<HeadFormat>, One<VersionFormat>>;
 
-type Machine = Both<
-    Measured<CpuFormat, WordFormat>,
-    Both<Elements<UnitFormat>, Elements<EventFormat>>,
->;
+type Machine = Three<Measured<CpuFormat, WordFormat>, Elements<UnitFormat>, Elements<EventFormat>>;
 
 type Tables = Both<
     Both<Elements<BreakFormat>, Elements<ExpectFormat>>,
@@ -41,10 +38,7 @@ type Tables = Both<
 >;
 
 /// The parts of a state file, in their order.
-pub type Parts = Both<
-    Start,
-    Both<Machine, Both<Both<Elements<FileFormat>, One<WordFormat>>, Tables>>,
->;
+pub type Parts = Three<Start, Machine, Both<Both<Elements<FileFormat>, One<WordFormat>>, Tables>>;
 
 /// What was read of the machine.
 type FoundMachine = ((SavedCpu, Vec<u16>), (Vec<SavedUnit>, Vec<SavedEvent>));
