@@ -3,7 +3,8 @@ use Rattle.std.specs.Prelude.{◌≡◌, ℕ, ◌<◌, ◌^◌, Bool, true, fals
 use Rattle.fault_counts.specs.Faults.{raised}
 use Rattle.host_lines.specs.State.{LineState}
 use Rattle.telnet_lines.specs.Line.{LineOf}
-use Rattle.state_transfer.specs.Listening.{wants_port, with_port as ported_by, IsListening, AreClosed}
+use Rattle.terminal_ports.specs.Listening.{IsListening}
+use Rattle.state_transfer.specs.Listening.{wants_port, with_port as ported_by, AreClosed}
 use Rattle.command_session.specs.declared.fault.CommandFault.TheVariants.{PortFailed}
 use Rattle.command_session.specs.Reply.{Answer}
 use Rattle.command_session.specs.LinesLeft.{NotListened}

@@ -171,7 +171,16 @@ fn is_occupied<U: Unit>(machine: &Machine<U>) -> bool
     ensures nothing { result ≡ false → attached_files machine.now ≡ nothing_attached }
     ensures closed { result ≡ false → AreClosed machine.now.lines }
 {
-    !machine.attached().is_empty() || has_port(machine.lines())
+    !machine.attached().is_empty() || is_ported(machine)
+}
+
+// Whether the console line or a terminal line has a port.
+#[tactic(auto, using(crate::proofs::ConsoleFirst::console_first))]
+fn is_ported<U: Unit>(machine: &Machine<U>) -> bool
+    ensures test { result ≡ has_port machine.now.lines }
+    ensures closed { result ≡ false → AreClosed machine.now.lines }
+{
+    machine.console_at().port().is_some() || has_port(machine.lines())
 }
 
 // Whether one of these lines has a port.

@@ -1,7 +1,6 @@
 -- Lines whose ports are apart stay so where one of them gets a port that none has, or loses its own.
-use Rattle.std.proofs.Common.{◌≡◌, ◌≢◌, ℕ, zero, suc, List, [], ◌∷◌, map, slice_get, slice_set, Option, Some, None, refl, ap, sym, subst, ◌∙◌, arith}
+use Rattle.std.proofs.Common.{◌≡◌, ◌≢◌, ℕ, zero, suc, List, [], ◌∷◌, map, slice_get, slice_set, Option, Some, None, refl, ap, sym, subst, ◌∙◌}
 use Rattle.std.proofs.lemmas.Option.{same_Some}
-use Rattle.std.specs.List.{AllByRecursion}
 use Rattle.telnet_lines.specs.Line.{LineOf, unconnected}
 use Rattle.terminal_ports.specs.Ports.{changed_at, HasOther, OthersHaveNone, HavePortsApart, HaveNone, OnlyOneHas}
 
@@ -55,8 +54,7 @@ apart-by [] (k ∷ others) same are = absurd (cc)
 apart-by (l ∷ lines) [] same are = absurd (cc)
 apart-by {P} {Q} (l ∷ lines) (k ∷ others) same are =
     let is : k.port ≡ l.port = cc in
-    let more : ports others ≡ ports lines = cc in
-    (
+    let more : ports others ≡ ports lines = cc in (
       λ own. are.0 (sym is ∙ own),
       (
         subst (λ (p : Option ℕ). OthersHaveNone {P = Q} p others) (sym is) (none-by l.port lines others more are.1.0),

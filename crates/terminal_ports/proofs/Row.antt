@@ -1,12 +1,11 @@
 -- Listenings in a row: what each leaves, put together.
-use Rattle.std.proofs.Common.{◌≡◌, ℕ, zero, suc, ◌+◌, ◌-◌, ◌<◌, ◌==◌, Bool, true, false, IsTrue, List, [], ◌∷◌, ◌++◌, Result, Ok, Err, refl, ap, sym, subst, ◌∙◌, arith, if◌then◌else◌}
+use Rattle.std.proofs.Common.{◌≡◌, ℕ, zero, suc, ◌+◌, ◌-◌, ◌<◌, ◌==◌, Bool, true, false, List, [], ◌∷◌, ◌++◌, Ok, Err, refl, ap, sym, subst, ◌∙◌, arith, if◌then◌else◌}
 use Rattle.host_lines.specs.declared.lines.ListenFault.{ListenFault}
-use Rattle.host_lines.specs.declared.lines.ListenFault.TheVariants as listen
 use Rattle.host_lines.specs.Traffic.{Quiet, listening}
 use Rattle.host_lines.specs.Told.{Told, Gives}
-use Rattle.host_lines.specs.LineCalls.{Listens, ports_after, listen_faults}
+use Rattle.host_lines.specs.LineCalls.{Listens, listen_faults}
 use Rattle.host_lines.specs.State.{LineState, parties, with_one, without_one}
-use Rattle.terminal_ports.specs.Listening.{rising, IsListening, listens_each, given_up, TellsEach, AllListened, OneRefused, LeavesPorts, ListensEach}
+use Rattle.terminal_ports.specs.Listening.{rising, IsListening, listens_each, given_up, TellsEach, ListensEach}
 
 -- ---- the ports of a row
 
