@@ -12,7 +12,7 @@ use Rattle.telnet_lines.specs.Joined.{seen_line, HasCaller, KeepsParties}
 use Rattle.telnet_lines.specs.Many.{AreApart}
 use Rattle.telnet_lines.proofs.Several.{stand_apart}
 use Rattle.telnet_lines.proofs.Apart.{is_or_not, same_kind, still_has, recorded_after}
-use Rattle.terminal_ports.specs.Ports.{changed_at, HasOther, OthersHaveNone, HavePortsApart}
+use Rattle.terminal_ports.specs.Ports.{changed_at, HasOther, OthersHaveNone, HavePortsApart, HaveNone, OnlyOneHas}
 use Rattle.terminal_ports.specs.Listening.{IsListening}
 use Rattle.terminal_ports.proofs.PortsApart.{changed-set, changed-none, changed-same, set-same, apart-by, none-given, given-apart, only-by, only-set, only-closed}
 use Rattle.host_lines.specs.declared.lines.ListenFault.{ListenFault}
@@ -20,7 +20,7 @@ use Rattle.host_lines.specs.declared.lines.ListenFault.TheVariants as listen
 use Rattle.nova_machine.specs.LineChanges.{ports_of, HaveNoPort, HasConnection, AreLinesTold, LinesGoOn}
 
 use Rattle.nova_machine.proofs.LineSteps.{lines-stay, first-same, first-through, hears-same, hears-equal, hears-then, no-ports-same}
-use Rattle.command_session.specs.LineEffects.{terminal_place, closed, closed_by, hung, hung_by, unported, hung_up}
+use Rattle.command_session.specs.LineEffects.{terminal_place, ported, closed, closed_by, hung, hung_by, unported, hung_up}
 use Rattle.command_session.specs.LinesLeft.{HasPort, AreListened, AreSessionLines, LinesLeft, GivesUp, SeenAs, without_any}
 
 -- ---- ports
@@ -36,11 +36,11 @@ has-port-or-not port (line ∷ lines) = elim (is_or_not line.port port) [
 ]
 
 -- a line that keeps its port
-same-ports : (lines : List (LineOf ℕ)) (place : ℕ) (line after : LineOf ℕ) → slice_get lines place ≡ Some line → after.port ≡ line.port → ports_of (slice_set lines place after) ≡ ports_of lines
+same-ports : {P : Type 0} (lines : List (LineOf P)) (place : ℕ) (line after : LineOf P) → slice_get lines place ≡ Some line → after.port ≡ line.port → ports_of (slice_set lines place after) ≡ ports_of lines
 same-ports [] place line after at same = refl
-same-ports (l ∷ lines) zero line after at same =
-    ap (λ (p : Option ℕ). p ∷ ports_of lines) (same ∙ ap (λ (x : LineOf ℕ). x.port) (sym (same_Some l line at)))
-same-ports (l ∷ lines) (suc place) line after at same = ap (λ (ps : List (Option ℕ)). l.port ∷ ps) (same-ports lines place line after at same)
+same-ports {P} (l ∷ lines) zero line after at same =
+    ap (λ (p : Option ℕ). p ∷ ports_of lines) (same ∙ ap (λ (x : LineOf P). x.port) (sym (same_Some l line at)))
+same-ports {P} (l ∷ lines) (suc place) line after at same = ap (λ (ps : List (Option ℕ)). l.port ∷ ps) (same-ports lines place line after at same)
 
 -- lines with the same ports
 has-port-by : (port : ℕ) (lines others : List (LineOf ℕ)) → ports_of others ≡ ports_of lines → HasPort port lines → HasPort port others
@@ -122,12 +122,71 @@ session-by lines others same own = record {
 }
 
 -- the second teletype gets a port
-pub session-listened : (lines : List (LineOf ℕ)) (port : ℕ) → port ≢ 0 → AreSessionLines lines
+pub session-listened : {P : Type 0} (lines : List (LineOf P)) (port : ℕ) → port ≢ 0 → AreSessionLines lines
     → AreSessionLines (slice_set lines terminal_place (unconnected (Some port)))
-session-listened lines port some own = record {
+session-listened {P} lines port some own = record {
   apart = given-apart terminal_place lines port some own.others own.apart;
   others = only-set terminal_place lines (unconnected (Some port)) own.others;
 }
+
+-- a line loses its port
+session-freed : {P : Type 0} (place : ℕ) (lines : List (LineOf P)) (after : LineOf P) → after.port ≡ None → AreSessionLines lines → AreSessionLines (slice_set lines place after)
+session-freed place lines after free own = record {
+  apart = none-given place lines after free own.apart;
+  others = only-closed place terminal_place lines after free own.others;
+}
+
+-- the same of lines in which the one at a place has changed, where it is there
+changed-session : {P : Type 0} (place : ℕ) (change : LineOf P → LineOf P) (lines : List (LineOf P)) → AreSessionLines lines
+    → ((line : LineOf P) → slice_get lines place ≡ Some line → AreSessionLines (slice_set lines place (change line))) → AreSessionLines (changed_at place change lines)
+changed-session {P} place change lines own changes = by (slice_get lines place) refl
+  where
+    by : (o : Option (LineOf P)) → slice_get lines place ≡ o → AreSessionLines (changed_at place change lines)
+    by None none = subst (λ (ls : List (LineOf P)). AreSessionLines ls) (sym (changed-none change place lines none)) own
+    by (Some line) at = subst (λ (ls : List (LineOf P)). AreSessionLines ls) (changed-set change place lines line at) (changes line at)
+
+closed-free : {P : Type 0} (port : Option ℕ) (line : LineOf P) → line.port ≡ port → (closed_by port line).port ≡ None
+closed-free None line is = is
+closed-free (Some port) line is = refl
+
+hung-same : {P : Type 0} (port : Option ℕ) (line : LineOf P) → line.port ≡ port → (hung_by port line).port ≡ line.port
+hung-same None line is = refl
+hung-same (Some port) line is = sym is
+
+pub session-unported : {P : Type 0} (place : ℕ) (lines : List (LineOf P)) → AreSessionLines lines → AreSessionLines (unported place lines)
+session-unported place lines own = changed-session place closed lines own (λ line at. session-freed place lines (closed line) (closed-free line.port line refl) own)
+
+pub session-hung : {P : Type 0} (place : ℕ) (lines : List (LineOf P)) → AreSessionLines lines → AreSessionLines (hung_up place lines)
+session-hung place lines own =
+    changed-session place hung lines own (λ line at. session-by lines (slice_set lines place (hung line)) (same-ports lines place line (hung line) at (hung-same line.port line refl)) own)
+
+pub session-ported : {P : Type 0} (port : Option ℕ) (lines : List (LineOf P)) → port ≢ Some 0 → AreSessionLines lines → AreSessionLines (ported terminal_place port lines)
+session-ported {P} None lines some own =
+    changed-session terminal_place (λ (line : LineOf P). unconnected None) lines own (λ line at. session-freed terminal_place lines (unconnected None) refl own)
+session-ported {P} (Some port) lines some own =
+    changed-session terminal_place (λ (line : LineOf P). unconnected (Some port)) lines own
+    (λ line at. session-listened lines port (λ none. some (ap Some none)) own)
+
+-- lines without a port
+free-only : {P : Type 0} (place : ℕ) (lines : List (LineOf P)) → HaveNone lines → OnlyOneHas place lines
+free-only place [] none = tt
+free-only zero (line ∷ lines) none = none.1
+free-only (suc place) (line ∷ lines) none = (none.0, free-only place lines none.1)
+
+free-apart : {P : Type 0} (lines : List (LineOf P)) → HaveNone lines → HavePortsApart lines
+free-apart [] none = tt
+free-apart {P} (line ∷ lines) none =
+    (
+      λ own. absurd (true≢false (ap is_some (sym own ∙ none.0))),
+      (subst (λ (p : Option ℕ). OthersHaveNone {P = P} p lines) (sym none.0) (any lines), free-apart lines none.1),
+    )
+  where
+    any : (ls : List (LineOf P)) → OthersHaveNone {P = P} None ls
+    any [] = tt
+    any (l ∷ ls) = (tt, any ls)
+
+pub session-free : {P : Type 0} (lines : List (LineOf P)) → HaveNone lines → AreSessionLines lines
+session-free lines none = record { apart = free-apart lines none; others = free-only terminal_place lines none }
 
 -- ---- calls one behind another
 
@@ -297,10 +356,7 @@ module _ (place : ℕ) (tells : Bool) (port : Option ℕ) (old new : LineState) 
 
   still-session : AreSessionLines lines → AreSessionLines (slice_set lines place after)
   still-session own = elim gives.which [
-    | inl closes ↦ record {
-      apart = none-given place lines after closes.1 own.apart;
-      others = only-closed place terminal_place lines after closes.1 own.others;
-    }
+    | inl closes ↦ session-freed place lines after closes.1 own
     | inr keeps ↦ session-by lines (slice_set lines place after) (same-ports lines place line after at keeps.1) own
   ]
 
