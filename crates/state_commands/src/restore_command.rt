@@ -165,7 +165,7 @@ fn saved_in(reader: StateReader) -> Result<Saved, StateFault>
     reader.finish()
 }
 
-// Whether a unit has a file, or a line a port.
+// Whether a unit has a file, or a line a port, that of the console too.
 fn is_occupied<U: Unit>(machine: &Machine<U>) -> bool
     ensures test { result ≡ is_occupied (attached_in machine.now) machine.now.lines }
     ensures nothing { result ≡ false → attached_files machine.now ≡ nothing_attached }
