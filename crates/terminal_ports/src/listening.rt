@@ -7,8 +7,8 @@ use host_lines::{Lines, ListenFault};
 use std::alloc::Global;
 use telnet_lines::Line;
 
-/// Listens on so many ports, from one on, in the order of their numbers. Where one is not to be had, those before it are
-/// given up again, also where somebody else had listened on them before, and those behind it are not tried.
+/// Listens on so many ports, from one on, in the order of their numbers. Where one is not to be had, those before it
+/// are given up again, also where somebody else had listened on them before, and those behind it are not tried.
 pub fn listen_up<L: Lines>(
     alloc: Global,
     port: u32,
