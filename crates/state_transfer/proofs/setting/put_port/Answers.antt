@@ -1,4 +1,4 @@
-use Rattle.std.proofs.Common.{◌≡◌, ◌≢◌, ◌∙◌, List, slice_get, slice_set, Some, None, ap, sym, true≢false, rules}
+use Rattle.std.proofs.Common.{◌≡◌, ◌≢◌, ◌∙◌, ℕ, List, slice_get, slice_set, Some, None, ap, sym, true≢false, rules}
 use Rattle.telnet_lines.specs.Line.{LineOf}
 use Rattle.nova_machine.specs.Machine.{place_of as line_place}
 use Rattle.terminal_ports.proofs.PortsApart.{set-same}
