@@ -63,9 +63,9 @@ pub struct Ending<U: Unit> {
 /// are closed, behind writing back what the disk holds; at any other end they stay open, and where that can't be
 /// written back, which is status 107 at the end of the input.
 ///
-/// The machine has one terminal line, of its second teletype. ATTACH gives it a port of `lines`. At EXIT and at the end
-/// of the input, where no file had to be kept, that is given up with its connection; at any other end, and behind the
-/// workload of `-g`, it stays.
+/// The machine has its console line and the line of its second teletype, both without a port. ATTACH gives the second
+/// one a port of `lines`. At EXIT and at the end of the input, where no file had to be kept, that is given up with its
+/// connection; at any other end, and behind the workload of `-g`, it stays.
 pub fn simulate<U: Unit, C: Source, S: Sink, F: Files, L: Lines>(
     alloc: Global,
     words: &[String],
