@@ -10,7 +10,7 @@ use Rattle.command_session.specs.Reply.{Answer}
 use Rattle.command_session.specs.LinesLeft.{NotListened}
 use Rattle.command_session.specs.PortAnswers.{LinesStay}
 
--- RESTORE, by its answer: no line had a port, and the first one has that of the saved session, or none, and it was
+-- RESTORE, by its answer: no line had a port, and line 0 has that of the saved session, or none, and it was
 -- listened on; or the listening failed; or nothing was asked.
 pub record RestoresPort (tells : Bool) (old : LineState) (before : List (LineOf ℕ)) (new : LineState) (after : List (LineOf ℕ)) : Type 0 where
   pub port : ℕ
