@@ -18,7 +18,6 @@ use Rattle.terminal_ports.proofs.PortsApart.{changed-set, changed-none, changed-
 use Rattle.host_lines.specs.declared.lines.ListenFault.{ListenFault}
 use Rattle.host_lines.specs.declared.lines.ListenFault.TheVariants as listen
 use Rattle.nova_machine.specs.LineChanges.{ports_of, HaveNoPort, HasConnection, AreLinesTold, LinesGoOn}
-
 use Rattle.nova_machine.proofs.LineSteps.{lines-stay, first-same, first-through, hears-same, hears-equal, hears-then, no-ports-same}
 use Rattle.command_session.specs.LineEffects.{terminal_place, ported, closed, closed_by, hung, hung_by, unported, hung_up}
 use Rattle.command_session.specs.LinesLeft.{HasPort, AreListened, AreSessionLines, LinesLeft, GivesUp, SeenAs, without_any}
@@ -175,11 +174,10 @@ free-only (suc place) (line ∷ lines) none = (none.0, free-only place lines non
 
 free-apart : {P : Type 0} (lines : List (LineOf P)) → HaveNone lines → HavePortsApart lines
 free-apart [] none = tt
-free-apart {P} (line ∷ lines) none =
-    (
-      λ own. absurd (true≢false (ap is_some (sym own ∙ none.0))),
-      (subst (λ (p : Option ℕ). OthersHaveNone {P = P} p lines) (sym none.0) (any lines), free-apart lines none.1),
-    )
+free-apart {P} (line ∷ lines) none = (
+  λ own. absurd (true≢false (ap is_some (sym own ∙ none.0))),
+  (subst (λ (p : Option ℕ). OthersHaveNone {P = P} p lines) (sym none.0) (any lines), free-apart lines none.1),
+)
   where
     any : (ls : List (LineOf P)) → OthersHaveNone {P = P} None ls
     any [] = tt
@@ -309,16 +307,14 @@ still-others : (s s' : LineState) (place : ℕ) (lines : List (LineOf ℕ)) (lin
     → s'.listens ≡ without_any line.port s.listens → HavePortsApart lines → AreListened s lines → AreListened s' (slice_set lines place after)
 still-others s s' place [] line after at free same are all = absurd (cc)
 still-others s s' zero (l ∷ lines) line after at free same are all =
-    let is : l.port ≡ line.port = ap (λ (x : LineOf ℕ). x.port) (same_Some l line at) in
-    (
+    let is : l.port ≡ line.port = ap (λ (x : LineOf ℕ). x.port) (same_Some l line at) in (
       subst (λ (p : Option ℕ). IsListenedAt s' p) (sym free) tt,
       others-listened s s' line.port lines same (subst (λ (p : Option ℕ). OthersHaveNone p lines) is are.1.0) all.1,
     )
-still-others s s' (suc place) (l ∷ lines) line after at free same are all =
-    (
-      still-there s s' line.port l.port same (λ some own. differs l.port place lines line at are.1.0 (subst (λ (p : Option ℕ). IsSome p) own some) own) all.0,
-      still-others s s' place lines line after at free same are.1.1 all.1,
-    )
+still-others s s' (suc place) (l ∷ lines) line after at free same are all = (
+  still-there s s' line.port l.port same (λ some own. differs l.port place lines line at are.1.0 (subst (λ (p : Option ℕ). IsSome p) own some) own) all.0,
+  still-others s s' place lines line after at free same are.1.1 all.1,
+)
 
 -- where no port is given up, all are
 still-same : (s s' : LineState) (place : ℕ) (lines : List (LineOf ℕ)) (line after : LineOf ℕ) → slice_get lines place ≡ Some line → after.port ≡ line.port

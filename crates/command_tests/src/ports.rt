@@ -51,11 +51,7 @@ DETACH ALL|0 Go|
 RESTORE s|0 AlreadyAttached|
 EXIT 3|0 Exit 3|";
 
-fn plays_beside<U: Unit>(
-    rt: &impl Abort,
-    alloc: Global,
-    units: Vec<U>,
-) -> Result<(), AllocError>
+fn plays_beside<U: Unit>(rt: &impl Abort, alloc: Global, units: Vec<U>) -> Result<(), AllocError>
     requires { IsStandard (map U.unit_state units.items) }
 {
     let mut files = MemFiles::with_room(alloc, 0)?;

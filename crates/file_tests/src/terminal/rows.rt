@@ -20,8 +20,7 @@ fn is_refused(alloc: Global, lines: &mut MemLines) -> bool {
     let refused = listen_up(alloc, 4000, 5, lines);
     let once = lines.faults();
     let next = listen_up(alloc, 4000, 2, lines);
-    (refused, once) == (Err(ListenFault::Failed), 1)
-        && (next, lines.faults()) == (Ok(()), 1)
+    (refused, once) == (Err(ListenFault::Failed), 1) && (next, lines.faults()) == (Ok(()), 1)
 }
 
 /// The 66th to 69th calls, of which the third fails.
