@@ -68,7 +68,7 @@ use Rattle.command_session.specs.WatchEffects.{text_of_quoted, lacks_room_for_br
 use Rattle.plain_commands.specs.ListEffects.{lacks_device, examine_after, examine_reply, handed, deposit_after, deposit_reply}
 use Rattle.command_session.specs.FileEffects.{first_place, lacks_unit, mode_of, attach_answer, attach_used, attached_machine, attach_with, attach_reply, detach_answer, detach_used, detached_machine, flushed_files, detach_with, detach_reply}
 use Rattle.command_session.specs.FileEffects.{filed_in, emptied_all, left_by, unported_by, kept_answer, emptied_reply, detach_all_reply, detach_one_or_all}
-use Rattle.host_lines.specs.Traffic.{Answer as LineAnswer, Peer, Replied, Ahead, Script, Answers, Quiet, Failed, replied, begun, listening}
+use Rattle.host_lines.specs.Traffic.{Answer as LineAnswer, Peer, Replied, Ahead, Script, Answers, Quiet, Connected, Gave, HungUp, Failed, Took, Over, replied, begun, rest_of, listening}
 use Rattle.telnet_lines.specs.Line.{LineOf, unconnected}
 use Rattle.command_session.specs.LineEffects.{is_terminal, terminal_line, ported, closed_by, unported, hung_by, hung_up, is_port, listen_answer, listen_lines, listen_with, attach_line, attach_port_reply}
 use Rattle.command_session.specs.LineEffects.{with_port, detach_port_reply, disconnect_reply, show_line}
@@ -259,8 +259,17 @@ valid-listening (Script t) valid = by (t.fails 0)
     by : (b : Bool) → ValidAhead (if b then replied Failed (Script (begun t)) else replied Quiet (Script (begun t))).ahead
     by true = valid
     by false = valid
-valid-listening (Answers []) valid = valid
-valid-listening (Answers (a ∷ more)) valid = valid.1
+valid-listening (Answers answers) valid = rest answers valid
+  where
+    rest : (l : List LineAnswer) → ValidAhead (Answers l) → ValidAhead (Answers (rest_of l))
+    rest [] all = tt
+    rest (Over ∷ more) all = all
+    rest (Quiet ∷ more) all = all.1
+    rest (Connected c ∷ more) all = all.1
+    rest (Gave bytes ∷ more) all = all.1
+    rest (HungUp ∷ more) all = all.1
+    rest (Failed ∷ more) all = all.1
+    rest (Took n ∷ more) all = all.1
 
 stands-if : (b : Bool) (live : Live) (x y : Reply) → (b ≡ true → Stands live x) → (b ≡ false → Stands live y) → Stands live (if b then x else y)
 stands-if true live x y first second = first refl

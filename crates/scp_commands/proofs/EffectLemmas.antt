@@ -50,7 +50,7 @@ use Rattle.command_session.specs.FileEffects.{detach_answer, detach_used, detach
 use Rattle.file_commands.specs.AllUnits.{Emptied}
 use Rattle.command_session.specs.declared.next.Next.{Next}
 use Rattle.unit_trait.specs.declared.kind.Kind.{Kind}
-use Rattle.host_lines.specs.Traffic.{Answer as LineAnswer, Peer, Replied, Quiet, Connected, Gave, HungUp, Failed, Took, listening}
+use Rattle.host_lines.specs.Traffic.{Answer as LineAnswer, Peer, Replied, Quiet, Connected, Gave, HungUp, Failed, Took, Over, listening}
 use Rattle.telnet_lines.specs.Line.{LineOf}
 use Rattle.command_session.specs.LineEffects.{is_terminal, terminal_line, is_port, listen_answer, listen_lines, listen_with, attach_line, attach_port_reply}
 use Rattle.command_session.specs.LineEffects.{with_port, detach_port_reply, disconnect_reply, show_line}
@@ -303,6 +303,7 @@ fair-listen_with kind port given said live = by said.answer
     by (Gave bytes) = record { reads = refl; exit = tt; untouched = λ other h. absurd (cc); all = λ other h none. absurd (cc) }
     by HungUp = record { reads = refl; exit = tt; untouched = λ other h. absurd (cc); all = λ other h none. absurd (cc) }
     by (Took count) = record { reads = refl; exit = tt; untouched = λ other h. absurd (cc); all = λ other h none. absurd (cc) }
+    by Over = record { reads = refl; exit = tt; untouched = λ other h. absurd (cc); all = λ other h none. absurd (cc) }
 
 fair-attach_line : (kind : Kind) (line : Option (LineOf Peer)) (port : ℕ) (live : Live) → Fair false (LeavesTraces (request.AttachPort kind port)) live (attach_line line port live)
 fair-attach_line kind None port live = fair-refused _ live
