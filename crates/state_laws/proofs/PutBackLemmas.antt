@@ -90,8 +90,8 @@ all-zero zero (x ∷ l) size h = absurd (omega (arith, size))
 all-zero (suc n) [] size h = absurd (omega (arith, size))
 all-zero (suc n) (x ∷ l) size h = λ i. h 0 i ∷ all-zero n l (omega (arith, size)) (λ k. h (suc k)) i
 
-memory-back : (m : MemoryState) → IsMemory m → IsSize m.size → memory_from (m.size / 1024) (take m.size m.words) ≡ m
-memory-back m is size =
+memory-back : (m : MemoryState) → IsMemory m → IsSize m.size → m.before ≡ false → memory_from false (m.size / 1024) (take m.size m.words) ≡ m
+memory-back m is size rule =
     let back = size-back m.size size in
     let whole = is.whole in
     let rest : drop m.size m.words ≡ replicate (2 ^ 15 - m.size) 0 =
@@ -100,7 +100,7 @@ memory-back m is size =
     let words : take m.size m.words ++ replicate (2 ^ 15 - 1024 * (m.size / 1024)) 0 ≡ m.words =
     ap (λ (n : ℕ). take m.size m.words ++ replicate (2 ^ 15 - n) 0) back
     ∙ ap (λ (l : List ℕ). take m.size m.words ++ l) (sym rest) ∙ take-append-drop m.size m.words in
-    λ i. record { words = words i; size = back i }
+    λ i. record { words = words i; size = back i; before = sym rule i }
 
 -- ---- files
 
@@ -216,7 +216,7 @@ machine-back : (s : Seen) → CanBeSaved s
 unfolding saved_machine machine_from
 machine-back s can =
     let m = s.machine in
-    let memory = memory-back m.processor.memory can.memory can.size in
+    let memory = memory-back m.processor.memory can.memory can.size can.rule in
     let twelve : length (attached_in m) ≡ file_units = length-map m.slots _ ∙ can.places in
     let attached = files-back s.files (attached_in m) twelve in
     let slots = ap (map held_from) attached ∙ numbers-back m.slots ∙ ap (λ (x : MachineState). x.slots) can.seen in

@@ -57,7 +57,7 @@ zero-at (suc n) zero = refl
 zero-at (suc n) (suc k) = zero-at n k
 
 memory-is : (k : ℕ) (words : List ℕ) → is_size k ≡ true → length words ≡ 1024 * k → AreWords words
-    → IsMemory (memory_from k words)
+    → IsMemory (memory_from false k words)
 memory-is k words is size are =
     let most = (size-from k is).most in
     let rest : List ℕ = replicate (2 ^ 15 - 1024 * k) 0 in
@@ -146,6 +146,7 @@ unfolding machine_from
 machine-in-range m attached files is places names bytes = record {
   memory = memory-is m.cpu.size_k m.words is.cpu.size_k is.size is.words;
   size = size-from m.cpu.size_k is.cpu.size_k;
+  rule = refl;
   cpu = record { four = is.cpu.few; words = is.cpu.acs; pc = ltb-true m.cpu.pc 32768 is.cpu.pc };
   mask = is.cpu.mask;
   switches = is.cpu.sr;

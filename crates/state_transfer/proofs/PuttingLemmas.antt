@@ -166,7 +166,7 @@ seen-as old new p becomes attached files here copy =
     let slots : map unnumbered old.slots ≡ map held_from attached =
     unnumbered-held old.slots ∙ ap (map held_from) here in
     ap erased becomes ∙ (λ i. record {
-      processor = record { cpu = cpu_from p.cpu; memory = memory_from p.cpu.size_k p.words };
+      processor = record { cpu = cpu_from p.cpu; memory = memory_from false p.cpu.size_k p.words };
       ints = interrupts_from p.cpu;
       sr = p.cpu.sr;
       stop_dev = is_set p.cpu.stop_dev;
