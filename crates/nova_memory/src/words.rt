@@ -4,8 +4,8 @@ ghost use Rattle.nova_memory.specs.Memory.{blank_words, IsSize, fits_size};
 use nova_word::{Addr, Word};
 use std::marker::Model;
 
-/// The words of a machine's memory, how many of them there are, and the rule of its auto-index locations. Who executes many instructions borrows them once,
-/// and so reads no pointer for each word.
+/// The words of a machine's memory, how many of them there are, and the rule of its auto-index locations. Who executes
+/// many instructions borrows them once, and so reads no pointer for each word.
 #[derive(Drop)]
 pub struct Words {
     pub(crate) words: [u16; 32768],
