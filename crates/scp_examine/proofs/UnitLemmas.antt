@@ -12,6 +12,7 @@ use Rattle.unit_trait.specs.Processor.{all_registers}
 use Rattle.unit_trait.specs.Calls.{UnitState}
 use Rattle.unit_trait.specs.Row.{InRange, Fits, takes_value}
 use Rattle.unit_trait.proofs.Codes.{same-code}
+use Rattle.unit_trait.proofs.LineRegisters.{registers-many}
 use Rattle.unit_trait.proofs.EveryKind.{every-kind}
 use Rattle.unit_trait.proofs.Ranges.{set-within, taken-within}
 use Rattle.unit_list.specs.Bus.{unit_at, register_in, with_register, with_register_in, kinds_of, AllFit}
@@ -71,8 +72,9 @@ register_count-found kind i h none = let past = past-none (registers kind) i non
 pub register_count-more : (kind : Kind) (i : ℕ) → is_some (register_at kind i) ≡ true → i + 1 ≤ length (registers kind)
 register_count-more kind i some = let within = within-some (registers kind) i some in omega (arith, within)
 
-pub few_registers : (kind : Kind) → length (registers kind) ≤ 17
-few_registers = every-kind (λ (k : Kind). length (registers k) ≤ 17) (omega arith, omega arith, omega arith, omega arith, omega arith, omega arith, omega arith, omega arith, omega arith, omega arith, omega arith)
+pub few_registers : (kind : Kind) → length (registers kind) ≤ 131
+few_registers = every-kind (λ (k : Kind). length (registers k) ≤ 131)
+    (omega arith, omega arith, omega arith, omega arith, omega arith, omega arith, omega arith, omega arith, omega arith, omega arith, omega (arith, registers-many))
 
 -- Which units there are.
 

@@ -12,6 +12,7 @@ use Rattle.unit_trait.specs.Kinds.{all_kinds, units_of, code_of, same_unit}
 use Rattle.unit_trait.specs.Registers.{Register, registers, register_at}
 use Rattle.unit_trait.specs.Calls.{UnitState}
 use Rattle.unit_trait.specs.Row.{InRange}
+use Rattle.unit_trait.specs.Multiplexer.{line_numbers}
 use Rattle.unit_trait.proofs.EveryKind.{every-kind}
 use Rattle.unit_list.specs.Bus.{AllFit, kinds_of}
 use Rattle.event_queue.specs.EventList.{Event, waiting, Sound}
@@ -89,7 +90,7 @@ are_narrow [] = true
 are_narrow (r ∷ rs) = nat_lt r.largest (2 ^ 32) && are_narrow rs
 
 registers-narrow : (kind : Kind) → are_narrow (registers kind) ≡ true
-unfolding are_narrow
+unfolding are_narrow line_numbers
 registers-narrow kind =
     every-kind (λ (k : Kind). are_narrow (registers k) ≡ true)
     (refl, refl, refl, refl, refl, refl, refl, refl, refl, refl, refl) kind
