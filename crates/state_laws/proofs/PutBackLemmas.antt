@@ -28,9 +28,9 @@ use Rattle.nova_machine.specs.Seen.{Seen, unnumbered, erased, attached_in}
 use Rattle.nova_machine.specs.Valid.{CopyIsFile}
 use Rattle.saved_session.specs.Parts.{FilePart}
 use Rattle.saved_session.specs.Ranges.{kind_at}
-use Rattle.saved_files.specs.declared.saving.UnitPlace.{UnitPlace}
-use Rattle.saved_files.specs.Restoring.{attachment_of, with_all, copy_of}
-use Rattle.saved_files.specs.Saving.{unit_at, file_places, flag_of, saved_file, saved_at, saved_files}
+use Rattle.saved_files.specs.declared.taking.UnitPlace.{UnitPlace}
+use Rattle.saved_files.specs.Putting.{attachment_of, with_all, copy_of}
+use Rattle.saved_files.specs.Taking.{unit_at, file_places, flag_of, saved_file, saved_at, saved_files}
 use Rattle.state_transfer.specs.Session.{saved_unit, saved_event, saved_machine, port_number, saved_port, saved}
 use Rattle.saved_session.specs.SavedWatch.{saved_break, saved_expect, saved_send, saved_watch}
 use Rattle.state_transfer.specs.PutBack.{is_set, memory_from, unit_from, unit_named, event_from, held_from, machine_from, port_from, lines_from, put_back, IsIdleLine, CanBeSaved}

@@ -22,7 +22,7 @@ use Rattle.saved_session.specs.Parts.{FilePart, MachinePart}
 use Rattle.saved_session.specs.Ranges.{is_size, kind_at, standard_kinds, FilePlace, is_name_length}
 use Rattle.saved_session.specs.Valid.{AreWords, Follow, IsEvent, IsMachine, IsFile}
 use Rattle.saved_session.specs.Order.{with_event, behind_file}
-use Rattle.saved_files.specs.Restoring.{unit_of, attachment_of, with_file, with_all, copy_of}
+use Rattle.saved_files.specs.Putting.{unit_of, attachment_of, with_file, with_all, copy_of}
 use Rattle.state_transfer.specs.PutBack.{memory_from, unit_from, event_from, held_from, machine_from}
 use Rattle.nova_machine.proofs.Each.{every-set}
 use Rattle.state_transfer.proofs.PutBackMachineLemmas.{units-fit, units-standard, events-sound, among-ten}

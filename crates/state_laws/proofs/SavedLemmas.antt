@@ -27,7 +27,7 @@ use Rattle.saved_session.specs.declared.saved.SavedEvent.{SavedEvent}
 use Rattle.saved_session.specs.Ranges.{is_flag, is_size, is_address, kind_at, standard_kinds, is_position, register_count, within_limits, holds_value, most_events, is_event_of, is_later}
 use Rattle.saved_session.specs.Valid.{AreWords, Follow, IsCpu, CanHold, IsUnit, IsEvent, IsMachine}
 use Rattle.saved_session.specs.Order.{next_number, with_event}
-use Rattle.saved_files.specs.Saving.{flag_of}
+use Rattle.saved_files.specs.Taking.{flag_of}
 use Rattle.state_transfer.specs.Session.{saved_cpu, saved_unit, saved_event, saved_machine}
 use Rattle.state_transfer.specs.SavedValid.{AreStandard}
 use Rattle.state_transfer.proofs.TakenSizes.{size-back, as-many, sound-behind, few-events}

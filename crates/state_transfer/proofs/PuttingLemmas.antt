@@ -29,7 +29,7 @@ use Rattle.host_lines.specs.Told.{ahead_of}
 use Rattle.host_lines.specs.State.{LineState}
 use Rattle.telnet_lines.specs.Line.{LineOf, unconnected}
 use Rattle.telnet_lines.specs.Joined.{seen_line}
-use Rattle.saved_files.specs.Restoring.{with_all}
+use Rattle.saved_files.specs.Putting.{with_all}
 use Rattle.state_transfer.specs.PutBack.{is_set, cpu_from, interrupts_from, memory_from, unit_from, event_from, held_from, machine_from, lines_from}
 use Rattle.saved_session.specs.SavedWatch.{watch_from}
 use Rattle.saved_session.specs.Ranges.{kind_at, standard_kinds, is_position, is_event_of}

@@ -21,7 +21,7 @@ use Rattle.saved_session.specs.declared.saved.SavedEvent.{SavedEvent}
 use Rattle.saved_session.specs.Parts.{UnitPart, MachinePart, State}
 use Rattle.saved_session.specs.Ranges.{kind_at}
 use Rattle.saved_session.specs.SavedWatch.{watch_from}
-use Rattle.saved_files.specs.Restoring.{with_all, copy_of}
+use Rattle.saved_files.specs.Putting.{with_all, copy_of}
 
 -- ---- the machine
 

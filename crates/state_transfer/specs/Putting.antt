@@ -14,7 +14,7 @@ use Rattle.saved_session.specs.declared.saved.SavedCpu.{SavedCpu}
 use Rattle.state_transfer.specs.Listening.{AreClosed}
 use Rattle.saved_session.specs.Parts.{MachinePart, State}
 use Rattle.state_transfer.specs.PutBack.{is_set, cpu_from, interrupts_from, memory_from, unit_from, event_from, machine_from, put_back}
-use Rattle.saved_files.specs.Restoring.{copy_of}
+use Rattle.saved_files.specs.Putting.{copy_of}
 
 -- the registers that instructions change
 abbrev pub with_registers_of : MachineState → SavedCpu → MachineState
