@@ -73,8 +73,8 @@ impl Words {
     }
 }
 
-/// What an indirect reference meets at one level: the word that it goes by, and the one whose bit 0 says whether it goes
-/// on.
+/// What an indirect reference meets at one level: the word that it goes by, and the one whose bit 0 says whether it
+/// goes on.
 #[derive(Clone, Copy)]
 struct Level {
     used: Word,

@@ -91,8 +91,8 @@ impl Memory {
         self.inside.set_words(words);
     }
 
-    /// Whether an indirect reference through an auto-index location tests bit 0 of the word there before it changes that,
-    /// and not of the changed word.
+    /// Whether an indirect reference through an auto-index location tests bit 0 of the word there before it changes
+    /// that, and not of the changed word.
     pub fn autobit(&self) -> bool
         ensures { result ≡ self.now.before }
     {

@@ -83,8 +83,8 @@ pub fn put_cpu<U: Unit>(machine: &mut Machine<U>, cpu: &SavedCpu)
     machine.set_clock(cpu.time, cpu.keys_taken);
 }
 
-/// The words of memory, and with them its size. A state file does not name the rule of the auto-index locations, so bit 0
-/// of the changed word is tested.
+/// The words of memory, and with them its size. A state file does not name the rule of the auto-index locations, so
+/// bit 0 of the changed word is tested.
 pub fn put_memory<U: Unit>(machine: &mut Machine<U>, words: &[u16])
     requires { IsSize (length words.now) }
     ensures { (k : ℕ) → length words.now ≡ 1024 * k
