@@ -1,17 +1,16 @@
 -- A piece that is taken in.
-use Rattle.std.proofs.Common.{◌≡◌, ℕ, ◌+◌, ◌-◌, ◌≤◌, ◌<◌, List, [], ◌++◌, length, take, drop, Result, Ok, Err, refl, sym, ap, subst, ◌∙◌, append_assoc, append-nil, arith, inl, inr}
+use Rattle.std.proofs.Common.{◌≡◌, ℕ, ◌-◌, ◌≤◌, List, [], ◌++◌, length, take, drop, Result, Ok, Err, refl, sym, ap, subst, ◌∙◌, append_assoc, arith, inl, inr}
 use Rattle.std.specs.Prelude.{OnOk}
 use Rattle.std.specs.declared.alloc.AllocError.{AllocError}
 use Rattle.std.proofs.lemmas.Bool.{cases_lt}
-use Rattle.std.proofs.lemmas.List.{take-append-drop, drop_all, take_all, length-append, length-take-le, get_or_append_left, get_or-append_right}
+use Rattle.std.proofs.lemmas.List.{take-append-drop, drop_all, length-append, length-take-le, get_or_append_left, get_or-append_right}
 use Rattle.sha2.specs.declared.Sha256.{Sha256}
 use Rattle.sha2.specs.Hashers.{Holds256}
 use Rattle.byte_layouts.specs.declared.stage.Stage.{Stage}
 use Rattle.byte_layouts.specs.declared.stage.Stage.TheVariants.{Open, AtEnd, Faulty}
-use Rattle.byte_layouts.specs.Readers.{At, at_of, Reader, longer}
+use Rattle.byte_layouts.specs.Readers.{at_of, Reader}
 use Rattle.byte_layouts.specs.Held.{Held, at_in, IsBytes}
-use Rattle.byte_layouts.specs.Parts.{IsRead}
-use Rattle.byte_layouts.specs.Fed.{first_place, Keeps, Comes, LetsGo, HasEnded, FedIn, IsFed, IsWanted}
+use Rattle.byte_layouts.specs.Fed.{first_place, Keeps, Comes, LetsGo, HasEnded, IsFed, IsWanted}
 
 bytes_joined : (x y : List ℕ) → IsBytes x → IsBytes y → IsBytes (x ++ y)
 bytes_joined x y fx fy i =

@@ -1,6 +1,6 @@
 -- What holds of every layout: its texts and what bytes say tell each other.
-use Rattle.std.proofs.Common.{◌≡◌, ℕ, ◌+◌, ◌<◌, Bool, true, List, [], ◌∷◌, ◌++◌, length, refl, sym, ap, subst, ◌∙◌}
-use Rattle.byte_layouts.specs.Layout.{Size, width, limit, Layout, Head, Version, Number, Bytes, Sized, Many, Listed, Then, Made, number_text, texts, text, reading, AreBytes, Follow, IsNumber, Has, loose}
+use Rattle.std.proofs.Common.{◌≡◌, ℕ, Bool, true, List, [], ◌∷◌, ◌++◌, length, refl, sym, ap, subst, ◌∙◌}
+use Rattle.byte_layouts.specs.Layout.{Size, width, limit, Layout, Head, Version, Number, Bytes, Sized, Many, Listed, Then, Made, number_text, texts, text, reading, Follow, IsNumber, Has, loose}
 use Rattle.byte_layouts.specs.Readers.{Reader, ◌>>=◌, gives, number, counted, tested, chain, with_last}
 use Rattle.byte_layouts.proofs.ReaderLaws.{IsReaderOf, HasSize, counted_is, joined_is, bound_is, made_is, retold, tested_is, splits}
 use Rattle.byte_layouts.proofs.Widths.{Below, sized_number}

@@ -1,5 +1,5 @@
 -- Readers of so many values, one behind the other.
-use Rattle.std.proofs.Common.{◌≡◌, ℕ, zero, suc, ◌<◌, ◌^◌, List, [], ◌∷◌, ◌++◌, length, refl, sym, ap, subst, arith}
+use Rattle.std.proofs.Common.{◌≡◌, ℕ, zero, suc, List, [], ◌∷◌, ◌++◌, length, refl, sym, ap, subst, arith}
 use Rattle.byte_layouts.specs.Layout.{texts, AreBytes, Follow}
 use Rattle.byte_layouts.specs.Readers.{Reader, ◌>>=◌, gives, chain}
 use Rattle.byte_layouts.specs.Held.{IsBytes}

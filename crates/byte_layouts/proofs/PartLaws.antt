@@ -1,17 +1,15 @@
 -- What comes in pieces: what was read stays read, and a fault stays one, whatever comes behind.
-use Rattle.std.proofs.Common.{◌≡◌, ◌≢◌, ℕ, suc, ◌+◌, ◌-◌, ◌<◌, ◌≤◌, Bool, true, false, List, [], ◌∷◌, ◌++◌, length, take, drop, Result, Ok, Err, Option, Some, None, refl, sym, ap, subst, ◌∙◌, append_assoc, append-nil, arith, eq-eqb}
+use Rattle.std.proofs.Common.{◌≡◌, ℕ, suc, ◌-◌, ◌<◌, Bool, true, false, List, [], ◌∷◌, ◌++◌, length, take, drop, Result, Ok, Err, Option, Some, None, refl, sym, ap, subst, ◌∙◌, append_assoc, append-nil, arith, eq-eqb}
 use Rattle.std.specs.Prelude.{◌&&◌, ◌==◌}
 use Rattle.std.specs.Option.{is_some}
 use Rattle.std.proofs.lemmas.List.{take-append-drop, drop_at, length-append, length-take-le}
-use Rattle.sha2.specs.declared.Sha256.{Sha256}
 use Rattle.sha2.specs.Hashers.{Holds256}
 use Rattle.byte_layouts.specs.declared.fault.FieldFault.{FieldFault}
-use Rattle.byte_layouts.specs.declared.fault.FieldFault.TheVariants.{BadField, Truncated, OutOfMemory}
-use Rattle.byte_layouts.specs.Readers.{At, at_of, Reader, followed, ◌>>=◌, gives, chain, with_last, longer, Fails}
-use Rattle.byte_layouts.specs.Layout.{Layout, text, reading, Has}
+use Rattle.byte_layouts.specs.declared.fault.FieldFault.TheVariants.{Truncated, OutOfMemory}
+use Rattle.byte_layouts.specs.Readers.{At, at_of, Reader, followed, gives, chain, with_last, longer, Fails}
+use Rattle.byte_layouts.specs.Layout.{Layout, text, reading}
 use Rattle.byte_layouts.specs.Held.{Held, at_in, IsBytes, IsPassed, IsThere, Passed}
-use Rattle.byte_layouts.specs.Parts.{Found, FindsIn, Taken, Missed, Takes, Further, IsRead, GoesOn, rest_of_one, rest_of_elements, rest_of_list, rest_of_measured, both}
-use Rattle.byte_layouts.proofs.ReaderLaws.{IsReaderOf}
+use Rattle.byte_layouts.specs.Parts.{Found, Taken, Takes, Further, IsRead, GoesOn, rest_of_one, rest_of_elements, rest_of_list, rest_of_measured, both}
 use Rattle.byte_layouts.proofs.LayoutLaws.{law}
 
 -- ---- bytes that were passed

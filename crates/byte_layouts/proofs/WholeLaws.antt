@@ -1,11 +1,11 @@
 -- The laws of texts with nothing behind them, over every layout.
-use Rattle.std.proofs.Common.{◌≡◌, ◌≢◌, ℕ, ◌+◌, ◌<◌, Bool, true, false, cond, eqb, List, [], ◌++◌, length, Result, Ok, Err, refl, sym, ap, subst, ◌∙◌, append-nil, arith, inl, inr}
+use Rattle.std.proofs.Common.{◌≡◌, ◌≢◌, ℕ, ◌<◌, Bool, true, false, cond, eqb, List, [], ◌++◌, length, Result, Ok, Err, refl, sym, ap, subst, ◌∙◌, append-nil, arith, inl, inr}
 use Rattle.std.proofs.lemmas.Bool.{eqb-true}
 use Rattle.std.proofs.lemmas.List.{length-append, nil_from_length}
 use Rattle.byte_layouts.specs.declared.fault.FieldFault.{FieldFault}
 use Rattle.byte_layouts.specs.declared.fault.FieldFault.TheVariants.{NotHead, Version, BadField, Truncated, OutOfMemory}
-use Rattle.byte_layouts.specs.Readers.{At, at_of, Reader, followed, longer, Gives, Fails}
-use Rattle.byte_layouts.specs.Layout.{Layout, text, reading, Has, loose}
+use Rattle.byte_layouts.specs.Readers.{At, at_of, followed, longer, Fails}
+use Rattle.byte_layouts.specs.Layout.{Layout, text, reading, Has}
 use Rattle.byte_layouts.specs.Held.{Held, at_in, IsBytes}
 use Rattle.byte_layouts.specs.Fed.{first_place, LetsGo, Tells}
 use Rattle.byte_layouts.specs.Whole.{ended, whole, TextsAreRead}

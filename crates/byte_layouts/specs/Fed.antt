@@ -2,10 +2,10 @@
 use Rattle.std.specs.Prelude.{◌≡◌, ◌⊎◌, ℕ, ◌+◌, ◌≤◌, Bool, true, List, [], ◌++◌, length, Result, Ok, Err}
 use Rattle.sha2.specs.Hashers.{Holds256}
 use Rattle.byte_layouts.specs.declared.fault.FieldFault.{FieldFault}
-use Rattle.byte_layouts.specs.declared.fault.FieldFault.TheVariants.{BadField, Truncated, OutOfMemory}
+use Rattle.byte_layouts.specs.declared.fault.FieldFault.TheVariants.{Truncated}
 use Rattle.byte_layouts.specs.declared.stage.Stage.{Stage}
 use Rattle.byte_layouts.specs.declared.stage.Stage.TheVariants.{Open, AtEnd, Faulty}
-use Rattle.byte_layouts.specs.Readers.{At, at_of, Reader, longer, followed, Fails}
+use Rattle.byte_layouts.specs.Readers.{At, at_of, Reader, longer, Fails}
 use Rattle.byte_layouts.specs.Held.{Held, at_in, IsBytes}
 use Rattle.byte_layouts.specs.Parts.{IsRead}
 

@@ -1,7 +1,7 @@
 -- The parts of a file that comes in pieces: each reads on in what has come.
-use Rattle.std.specs.Prelude.{◌≡◌, ℕ, Bool, true, false, ◌-◌, List, [], drop, ◌++◌, Result, Ok, Err, Option, Some, None}
+use Rattle.std.specs.Prelude.{◌≡◌, ℕ, Bool, true, false, ◌-◌, List, drop, ◌++◌, Result, Ok, Err, Option, Some, None}
 use Rattle.byte_layouts.specs.declared.fault.FieldFault.{FieldFault}
-use Rattle.byte_layouts.specs.declared.fault.FieldFault.TheVariants.{BadField, Truncated, OutOfMemory}
+use Rattle.byte_layouts.specs.declared.fault.FieldFault.TheVariants.{Truncated, OutOfMemory}
 use Rattle.byte_layouts.specs.Readers.{At, at_of, Reader, longer, followed, chain, Fails, ◌>>=◌, gives, with_last}
 use Rattle.byte_layouts.specs.Held.{Held, at_in, Passed, IsThere, IsBytes}
 

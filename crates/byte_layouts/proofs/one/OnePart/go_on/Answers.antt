@@ -1,7 +1,6 @@
-use Rattle.std.proofs.lemmas.Result.{err_from_is_err_and}
 use Rattle.std.proofs.Common.{[], refl}
 use Rattle.byte_layouts.specs.Layout.{reading}
-use Rattle.byte_layouts.proofs.PartLaws.{none_further, one_read, one_missed, one_there}
+use Rattle.byte_layouts.proofs.PartLaws.{none_further, one_read, one_there}
 use Rattle.byte_layouts.proofs.one.OnePart.go_on.Goals as goal
 
 pub returns-in_ok-take_next : goal.returns-in_ok-take_next

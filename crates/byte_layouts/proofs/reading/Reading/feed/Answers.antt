@@ -1,4 +1,4 @@
-use Rattle.std.proofs.Common.{length, arith}
+use Rattle.std.proofs.Common.{arith}
 use Rattle.byte_layouts.specs.Layout.{reading}
 use Rattle.byte_layouts.specs.Fed.{IsFed}
 use Rattle.byte_layouts.proofs.FedLaws.{takes, then_settled}
