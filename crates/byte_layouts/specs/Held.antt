@@ -1,4 +1,4 @@
--- The bytes of a file that came and are not read yet.
+-- The bytes of a text that came and are not read yet.
 use Rattle.std.specs.Prelude.{◌≡◌, ◌≤◌, ◌-◌, ◌+◌, ℕ, List, ◌++◌, length, get_or, take, drop, ◌<◌}
 use Rattle.sha2.specs.declared.Sha256.{Sha256}
 use Rattle.sha2.specs.Hashers.{Holds256}

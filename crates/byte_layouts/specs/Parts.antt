@@ -1,4 +1,4 @@
--- The parts of a file that comes in pieces: each reads on in what has come.
+-- The parts of a text that comes in pieces: each reads on in what has come.
 use Rattle.std.specs.Prelude.{◌≡◌, ℕ, Bool, true, false, ◌-◌, List, drop, ◌++◌, Result, Ok, Err, Option, Some, None}
 use Rattle.byte_layouts.specs.declared.fault.FieldFault.{FieldFault}
 use Rattle.byte_layouts.specs.declared.fault.FieldFault.TheVariants.{Truncated, OutOfMemory}

@@ -1,4 +1,4 @@
-// The parts of a file that comes in pieces.
+// The parts of a text that comes in pieces.
 ghost use Rattle.std.specs.Prelude.{◌≡◌, ℕ, Bool, true, List, [], Ok};
 ghost use Rattle.byte_layouts.specs.Readers.{At, Reader};
 ghost use Rattle.byte_layouts.specs.Layout.{Layout, reading};
@@ -8,7 +8,7 @@ use crate::fault::FieldFault;
 use crate::pending::Pending;
 use std::alloc::Global;
 
-/// A part of a file, as far as it was read.
+/// A part of a text, as far as it was read.
 pub trait Part: Drop {
     /// All of it, where it was read.
     type Output: Drop;

@@ -1,4 +1,4 @@
-// The bytes of a state file that came and are not read yet.
+// The bytes of a text that came and are not read yet.
 ghost use Rattle.std.specs.Prelude.{◌≡◌, ◌++◌, ◌+◌, ◌<◌, ◌^◌, List, [], ℕ, IsTrue, IfOk, OnOk, length};
 ghost use Rattle.sha2.specs.Hashers.{Holds256};
 ghost use Rattle.sha2.specs.Sha256.{sha256};
@@ -9,8 +9,8 @@ use sha2::{Digest, Sha256};
 use std::alloc::{AllocError, Global};
 use std::marker::Model;
 
-/// How many bytes there is room for from the first: a piece, and a byte less than the longest record, which is a text
-/// that is waited for with its actions.
+/// How many bytes there is room for from the first: a piece of 4096 bytes, and what may wait before it of a record of
+/// 583 bytes. Where more bytes wait, more room is taken.
 const ROOM: usize = 4096 + 582;
 
 /// The bytes that came, of which the first ones were read, the place behind those in all bytes, and what hashed them.

@@ -1,4 +1,4 @@
-// The next value in what has come of a file.
+// The next value in what has come of a text.
 ghost use Rattle.std.specs.Prelude.{map};
 ghost use Rattle.byte_layouts.specs.Layout.{reading};
 ghost use Rattle.byte_layouts.specs.Parts.{Finds, Takes};
