@@ -1,5 +1,5 @@
 -- The registers of devices: where they are, what they can hold, and what setting one leaves.
-use Rattle.std.proofs.Common.{◌≡◌, inl, inr, ℕ, ◌+◌, ◌<◌, ◌≤◌, ◌==◌, ◌||◌, zero, suc, Bool, true, false, List, [], ◌∷◌, length, Contains, slice_get, slice_set, Option, Some, None, is_some, option_map, option_and_then, if◌then◌else◌, refl, sym, ap, subst, ◌∙◌, arith}
+use Rattle.std.proofs.Common.{◌≡◌, inl, inr, ℕ, ◌+◌, ◌<◌, ◌≤◌, ◌==◌, ◌||◌, zero, suc, Bool, true, false, List, [], ◌∷◌, length, Contains, slice_get, slice_set, Option, Some, None, is_some, option_map, option_and_then, option_to_list, if◌then◌else◌, refl, sym, ap, subst, ◌∙◌, arith}
 use Rattle.std.proofs.lemmas.Option.{same_Some}
 use Rattle.std.proofs.lemmas.Bool.{cases_eq, eqb-true, eq-eqb}
 use Rattle.unit_trait.specs.declared.kind.Kind.{Kind}
@@ -44,6 +44,21 @@ numbered-at kind (r ∷ rs) from (suc i) at e = numbered-at kind rs (from + 1) i
 pub named-unit : (kind : Kind) (i : ℕ) → named_register (whose.Device kind) i ≡ option_map (λ r. UnitRegister kind i) (register_at kind i)
 unfolding named_register
 named-unit kind i = numbered-at kind (registers kind) 0 i i (omega arith)
+
+listed-once : {A B : Type 0} (y : B) (o : Option A) → is_some o ≡ true → y ∷ [] ≡ option_to_list (option_map (λ x. y) o)
+listed-once y None is = cc
+listed-once y (Some x) is = refl
+
+listed-never : {A B : Type 0} (y : B) (o : Option A) → is_some o ≡ false → [] ≡ option_to_list (option_map (λ x. y) o)
+listed-never y None is = refl
+listed-never y (Some x) is = cc
+
+-- a register that is there is the one place of its number, and one that is not is none
+pub unit-listed : (kind : Kind) (i : ℕ) → is_some (register_at kind i) ≡ true → UnitRegister kind i ∷ [] ≡ option_to_list (named_register (whose.Device kind) i)
+unit-listed kind i there = listed-once (UnitRegister kind i) (register_at kind i) there ∙ ap option_to_list (sym (named-unit kind i))
+
+pub unit-unlisted : (kind : Kind) (i : ℕ) → is_some (register_at kind i) ≡ false → [] ≡ option_to_list (named_register (whose.Device kind) i)
+unit-unlisted kind i none = listed-never (UnitRegister kind i) (register_at kind i) none ∙ ap option_to_list (sym (named-unit kind i))
 
 some-map : {A B : Type 0} (f : A → B) (o : Option A) → is_some (option_map f o) ≡ is_some o
 some-map f None = refl

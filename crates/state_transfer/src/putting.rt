@@ -1,5 +1,5 @@
 // What was saved of a machine is put into it: its processor, words, units and events.
-ghost use Rattle.std.specs.Prelude.{◌≡◌, ◌*◌, ◌<◌, ℕ, List, [], IsTrue, length, map, is_some};
+ghost use Rattle.std.specs.Prelude.{◌≡◌, ◌*◌, ◌<◌, ℕ, false, List, [], IsTrue, length, map, is_some};
 ghost use Rattle.unit_trait.specs.Kinds.{code_of, units_of};
 ghost use Rattle.unit_trait.specs.Processor.{CanHold};
 ghost use Rattle.unit_trait.specs.Registers.{registers};

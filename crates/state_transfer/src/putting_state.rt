@@ -140,7 +140,7 @@ pub fn put_outside<U: Unit, F: Files, L: Lines>(
 /// changed, and, unless that is forced, compared in length and digest before the next; then the port is listened on.
 /// The refusals come in this order, `OutOfMemory` in front of each. Behind a refusal the machine and the tables are as
 /// they were, and each file that was opened is closed; a closing that fails is told by the count of its file alone.
-#[tactic(auto, using(saved_files::proofs::RestoreOpenings::opens_nothing))]
+#[tactic(auto, using(saved_files::proofs::PuttingOpenings::opens_nothing))]
 pub fn set_state<U: Unit, F: Files, L: Lines>(
     alloc: Global,
     saved: &Saved,
