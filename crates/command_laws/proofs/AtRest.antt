@@ -17,12 +17,12 @@ use Rattle.expect_actions.specs.Watch.{WatchState}
 use Rattle.nova_machine.specs.Machine.{MachineState}
 use Rattle.nova_machine.specs.Seen.{erased, attached_in}
 use Rattle.nova_machine.specs.Valid.{IsByteName, HasByteName, ValidBreak, ValidExpect, ValidWatch, IsPort, ValidLine}
-use Rattle.saved_files.specs.declared.saving.UnitPlace.{UnitPlace}
+use Rattle.saved_files.specs.declared.taking.UnitPlace.{UnitPlace}
 use Rattle.saved_session.specs.Parts.{FilePart}
 use Rattle.state_text.specs.Laws.{FileHasWidths, BreakHasWidths, ExpectHasWidths, SendHasWidths, HasWidths}
 use Rattle.saved_session.specs.Valid.{BreaksFit, ExpectsFit, WatchFits, IsMachine}
 use Rattle.state_transfer.specs.PutBack.{IsIdleLine}
-use Rattle.saved_files.specs.Saving.{unit_at, file_places, saved_file, saved_at, saved_files}
+use Rattle.saved_files.specs.Taking.{unit_at, file_places, saved_file, saved_at, saved_files}
 use Rattle.state_transfer.specs.Session.{saved_machine, port_number, saved_port}
 use Rattle.saved_session.specs.SavedWatch.{saved_break, saved_expect, saved_send, saved_watch}
 use Rattle.state_laws.proofs.SavedLemmas.{machine-valid}
@@ -204,6 +204,7 @@ savable s files rest all =
       can = record {
         memory = valid.machine.memory;
         size = valid.machine.size;
+        rule = valid.machine.rule;
         places = valid.machine.places;
         seen = erased-same s.machine is.machine;
         copy = rest.copy;

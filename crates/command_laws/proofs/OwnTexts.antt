@@ -1,26 +1,24 @@
 -- No state text is that of two sessions: of a session that fits, and of what is read of its text.
-use Rattle.std.proofs.Common.{◌≡◌, ℕ, zero, suc, ◌^◌, ◌<◌, ◌≤◌, true, List, [], ◌∷◌, ◌++◌, get_or, Ok, sym, subst, arith}
+use Rattle.std.proofs.Common.{◌≡◌, ℕ, zero, suc, ◌^◌, ◌<◌, ◌≤◌, true, List, [], ◌∷◌, get_or, Ok, sym, arith}
 use Rattle.std.specs.Prelude.{nat_le, nat_lt, ◌&&◌, ◌||◌, ◌==◌, not}
-use Rattle.std.specs.List.{AllByRecursion, flat_map}
-use Rattle.std.specs.Int.{w8, w16, w32, w64}
+use Rattle.std.specs.List.{AllByRecursion}
 use Rattle.std.proofs.lemmas.Bool.{and_parts, leb-true}
-use Rattle.std.proofs.lemmas.List.Concat.{flat_map-cons}
 use Rattle.unit_trait.specs.declared.kind.Kind.{Kind}
 use Rattle.unit_trait.specs.declared.kind.Kind.TheVariants.{Dsk, Mta, Lpt, Ptr, Ptp, Clk, Tti, Tto, Tti1, Tto1, Qty}
 use Rattle.saved_session.specs.declared.saved.SavedCpu.{SavedCpu}
 use Rattle.saved_session.specs.declared.saved.SavedEvent.{SavedEvent}
 use Rattle.saved_session.specs.declared.saved.SavedSend.{SavedSend}
-use Rattle.saved_session.specs.Parts.{UnitPart, FilePart, BreakPart, ExpectPart, MachinePart, State}
+use Rattle.saved_session.specs.Parts.{UnitPart, FilePart, BreakPart, ExpectPart, State}
 use Rattle.saved_session.specs.Ranges.{is_flag, is_size, is_address, is_time, is_key_count, kind_at, is_position, can_wait, is_free, FilePlace, is_next_unit, only_writes, is_read_only_of, longest_file_of, is_file_length, last_send}
 use Rattle.saved_session.specs.Valid.{AreBytes, Follow, IsCpu, CanHold, IsUnit, IsEvent, IsFile, IsBreak, IsExpect, IsSend, Valid, Fits}
 use Rattle.state_text.specs.Reading.{reading}
 use Rattle.saved_session.specs.Order.{next_number, with_event, place_of, behind_file, behind_break, behind_send}
 use Rattle.state_text.specs.Laws.{CpuHasWidths, UnitHasWidths, EventHasWidths, FileHasWidths, BreakHasWidths, ExpectHasWidths, SendHasWidths, HasWidths}
-use Rattle.state_text.specs.Text.{number_text, word_text, register_text, unit_text, event_text, machine_text, file_text, break_text, expect_text, send_text, watch_text, head, body, text}
-use Rattle.state_text.proofs.MachineLaws.{small_unit}
+use Rattle.state_text.specs.Text.{text}
+use Rattle.state_text.proofs.ValidLaws.{small_unit}
+use Rattle.state_text.proofs.ByteLaws.{FileIsOfBytes, ExpectIsOfBytes, text_bytes}
 use Rattle.state_text.proofs.FitLaws.{texts-are-read}
 use Rattle.state_text.proofs.LooseLaws.{one-to-one}
-use Rattle.state_laws.proofs.SavedFileLemmas.{bytes-both, sha256-bytes}
 
 -- ---- what is valid fits its fields
 
@@ -160,93 +158,25 @@ valid-widths v is = record {
 
 -- ---- a text is of bytes
 
-byte-text : (n : ℕ) → AreBytes (number_text w8 n)
-unfolding number_text
-byte-text n = (omega arith, tt)
+files-bytes : (files : List FilePart) → AllByRecursion FileHasWidths files → AllByRecursion FileIsOfBytes files
+files-bytes [] all = tt
+files-bytes (f ∷ files) all = (record { name = all.0.name; digest = all.0.bytes }, files-bytes files all.1)
 
-half-text : (n : ℕ) → AreBytes (number_text w16 n)
-unfolding number_text
-half-text n = (omega arith, (omega arith, tt))
+breaks-bytes : (breaks : List BreakPart) → AllByRecursion BreakHasWidths breaks → AllByRecursion (λ (b : BreakPart). AreBytes b.actions) breaks
+breaks-bytes [] all = tt
+breaks-bytes (b ∷ breaks) all = (all.0.actions, breaks-bytes breaks all.1)
 
-word-text : (n : ℕ) → AreBytes (number_text w32 n)
-unfolding number_text
-word-text n = (omega arith, (omega arith, (omega arith, (omega arith, tt))))
-
-long-text : (n : ℕ) → AreBytes (number_text w64 n)
-unfolding number_text
-long-text n = (omega arith, (omega arith, (omega arith, (omega arith, (omega arith, (omega arith, (omega arith, (omega arith, tt))))))))
-
-each-text : {A : Type 0} (P : A → Type 0) (write : A → List ℕ) (xs : List A) → ((x : A) → P x → AreBytes (write x)) → AllByRecursion P xs
-    → AreBytes (flat_map write xs)
-each-text P write [] bytes all = tt
-each-text P write (x ∷ xs) bytes all =
-    subst AreBytes (sym (flat_map-cons write x xs)) (bytes-both (write x) (flat_map write xs) (bytes x all.0) (each-text P write xs bytes all.1))
-
-abbrev Any : {A : Type 0} → A → Type 0
-Any x = Unit {0}
-
-any-all : {A : Type 0} (xs : List A) → AllByRecursion Any xs
-any-all [] = tt
-any-all (x ∷ xs) = (tt, any-all xs)
-
-any-text : {A : Type 0} (write : A → List ℕ) (xs : List A) → ((x : A) → AreBytes (write x)) → AreBytes (flat_map write xs)
-any-text write xs bytes = each-text Any write xs (λ x any. bytes x) (any-all xs)
-
--- one behind the other
-both : (xs ys : List ℕ) → AreBytes xs → AreBytes ys → AreBytes (xs ++ ys)
-both xs ys first second = bytes-both xs ys first second
-
-unit-bytes : (u : UnitPart) → AreBytes (unit_text u)
-unit-bytes u = both _ _ (byte-text u.position) (both _ _ (byte-text _) (any-text register_text u.registers word-text))
-
-event-bytes : (e : SavedEvent) → AreBytes (event_text e)
-event-bytes e = both _ _ (byte-text e.position) (both _ _ (byte-text e.unit) (word-text e.remaining))
-
-machine-bytes : (m : MachinePart) → AreBytes (machine_text m)
-unfolding machine_text
-machine-bytes m =
-    let c = m.cpu in
-    both _ _
-    (both _ _ (both _ _ (byte-text c.size_k) (both _ _ (any-text word_text c.acs half-text) (both _ _ (byte-text c.carry) (half-text c.pc))))
-    (both _ _
-    (both _ _ (byte-text c.on) (both _ _ (byte-text c.hold) (both _ _ (half-text c.mask) (both _ _ (half-text c.sr) (byte-text c.stop_dev)))))
-    (both _ _ (long-text c.time) (long-text c.keys_taken))))
-    (both _ _ (any-text word_text m.words half-text)
-    (both _ _ (both _ _ (byte-text _) (any-text unit_text m.units unit-bytes)) (both _ _ (half-text _) (any-text event_text m.agenda event-bytes))))
-
-file-bytes : (f : FilePart) → FileHasWidths f → AreBytes (file_text f)
-file-bytes f has =
-    both _ _ (byte-text f.position) (both _ _ (byte-text f.unit) (both _ _ (byte-text f.read_only)
-    (both _ _ (both _ _ (half-text _) has.name) (both _ _ (long-text f.size) has.bytes))))
-
-break-bytes : (b : BreakPart) → BreakHasWidths b → AreBytes (break_text b)
-break-bytes b has = both _ _ (half-text b.address) (both _ _ (word-text b.count) (both _ _ (half-text _) has.actions))
-
-expect-bytes : (e : ExpectPart) → ExpectHasWidths e → AreBytes (expect_text e)
-expect-bytes e has = both _ _ (word-text e.count) (both _ _ (both _ _ (byte-text _) has.text) (both _ _ (half-text _) has.actions))
-
-send-bytes : (s : SavedSend) → AreBytes (send_text s)
-send-bytes s = both _ _ (long-text s.time) (byte-text s.byte)
-
-watch-bytes : (v : State) → HasWidths v → AreBytes (watch_text v.watch)
-unfolding watch_text
-watch-bytes v has =
-    both _ _ (both _ _ (half-text _) (each-text BreakHasWidths break_text _ break-bytes has.breaks))
-    (both _ _ (both _ _ (byte-text _) (each-text ExpectHasWidths expect_text _ expect-bytes has.expects))
-    (both _ _ (both _ _ (byte-text _) has.tail) (both _ _ (half-text _) (any-text send_text _ send-bytes))))
-
-body-bytes : (v : State) → HasWidths v → AreBytes (body v)
-unfolding body
-body-bytes v has =
-    let front : AreBytes head = (omega arith, (omega arith, (omega arith, (omega arith, (omega arith, (omega arith, (omega arith, (omega arith, tt)))))))) in
-    both head _ front
-    (both _ _ (half-text 1) (both _ _ (machine-bytes v.machine)
-    (both _ _ (both _ _ (byte-text _) (each-text FileHasWidths file_text _ file-bytes has.files))
-    (both _ _ (half-text _) (watch-bytes v has)))))
+expects-bytes : (expects : List ExpectPart) → AllByRecursion ExpectHasWidths expects → AllByRecursion ExpectIsOfBytes expects
+expects-bytes [] all = tt
+expects-bytes (e ∷ expects) all = (record { text = all.0.text; actions = all.0.actions }, expects-bytes expects all.1)
 
 text-bytes : (v : State) → HasWidths v → AreBytes (text v)
-unfolding text
-text-bytes v has = both _ _ (body-bytes v has) (sha256-bytes (body v))
+text-bytes v has = text_bytes v (record {
+  files = files-bytes v.files has.files;
+  breaks = breaks-bytes v.watch.breaks has.breaks;
+  expects = expects-bytes v.watch.expects has.expects;
+  tail = has.tail;
+})
 
 byte-at : (bytes : List ℕ) (i : ℕ) → AreBytes bytes → get_or bytes i 0 < 2 ^ 8
 byte-at [] i all = omega arith

@@ -15,10 +15,12 @@ use Rattle.unit_trait.specs.Writer.{writer_row}
 use Rattle.unit_trait.specs.Clock.{clock_row}
 use Rattle.unit_trait.specs.Keyboard.{keyboard_row}
 use Rattle.unit_trait.specs.Teleprinter.{teleprinter_row}
+use Rattle.unit_trait.specs.Multiplexer.{lines_row}
 use Rattle.unit_trait.proofs.EveryKind.{every-kind}
-use Rattle.event_queue.specs.EventList.{Event, waits, placed, activated, wished}
+use Rattle.event_queue.specs.EventList.{Event, waits, placed, activated, wished, is_of_kind}
 use Rattle.unit_list.specs.Bus.{unit_at}
 use Rattle.unit_list.specs.Reset.{first_unit, reset_events}
+use Rattle.unit_list.proofs.KeptEvents.{waits-cancelled}
 use Rattle.file_commands.specs.Notes.{CommandNote}
 use Rattle.nova_machine.specs.Machine.{MachineState, reset_devices, reset_machine}
 use Rattle.scp_parser.specs.Command as request
@@ -58,30 +60,33 @@ waits-activated u v t es h = cond_both (waits v es) _ _ (λ (xs : List Event). w
 activated-waits : (u : UnitName) (t : ℕ) (es : List Event) → waits u (activated u t es) ≡ true
 activated-waits u t es = cond_both (waits u es) _ _ (λ (xs : List Event). waits u xs ≡ true) (λ h. h) (λ _. placed-waits u t es)
 
--- a wish that is no cancelling
-abbrev KeepsEvents : Queue → Type 0
-KeepsEvents queue.Cancel = ⊥
-KeepsEvents wish = Unit {0}
+-- a wish for one unit that leaves the event of another: where it cancels, the other is of another kind
+abbrev KeepsEvent : UnitName → UnitName → Queue → Type 0
+KeepsEvent u v queue.Cancel = is_of_kind v.kind u ≡ false
+KeepsEvent u v wish = Unit {0}
 
-waits-wished : (u v : UnitName) (wish : Queue) (es : List Event) → KeepsEvents wish → waits u es ≡ true → waits u (wished v wish es) ≡ true
+waits-wished : (u v : UnitName) (wish : Queue) (es : List Event) → KeepsEvent u v wish → waits u es ≡ true → waits u (wished v wish es) ≡ true
 waits-wished u v queue.Keep es keeps h = h
-waits-wished u v queue.Cancel es keeps h = absurd keeps
+waits-wished u v queue.Cancel es keeps h = waits-cancelled u v.kind es keeps h
 waits-wished u v (queue.After t) es keeps h = waits-activated u v t es h
 
--- no reset cancels an event
-reset-keeps : (kind : Kind) (registers : List ℕ) → KeepsEvents (row_of kind registers Reset).queue
-unfolding row_of reader_row writer_row clock_row keyboard_row teleprinter_row
-reset-keeps kind registers = every-kind (λ (k : Kind). KeepsEvents (row_of k registers Reset).queue) (tt, tt, tt, tt, tt, tt, tt, tt, tt, tt, tt) kind
+-- no reset cancels a keyboard's event: only the multiplexer's cancels any, and those are its own
+reset-keeps : (kind : Kind) (registers : List ℕ) → KeepsEvent (first_unit Tti) (first_unit kind) (row_of kind registers Reset).queue
+unfolding row_of reader_row writer_row clock_row keyboard_row teleprinter_row lines_row
+reset-keeps kind registers =
+    every-kind (λ (k : Kind). KeepsEvent (first_unit Tti) (first_unit k) (row_of k registers Reset).queue)
+    (tt, tt, tt, tt, tt, tt, tt, tt, tt, tt, refl) kind
 
-waits-reset : (u : UnitName) (us : List UnitState) (es : List Event) → waits u es ≡ true → waits u (reset_events us es) ≡ true
-waits-reset u [] es h = h
-waits-reset u (v ∷ us) es h = waits-reset u us _ (waits-wished u (first_unit v.kind) (row v Reset).queue es (reset-keeps v.kind v.registers) h)
+waits-reset : (us : List UnitState) (es : List Event) → waits (first_unit Tti) es ≡ true → waits (first_unit Tti) (reset_events us es) ≡ true
+waits-reset [] es h = h
+waits-reset (v ∷ us) es h =
+    waits-reset us _ (waits-wished (first_unit Tti) (first_unit v.kind) (row v Reset).queue es (reset-keeps v.kind v.registers) h)
 
 -- a keyboard wishes its event
 first-waits : (registers : List ℕ) (us : List UnitState) (es : List Event)
     → waits (first_unit Tti) (reset_events us (wished (first_unit Tti) (row_of Tti registers Reset).queue es)) ≡ true
 unfolding row_of keyboard_row
-first-waits registers us es = waits-reset (first_unit Tti) us _ (activated-waits (first_unit Tti) (slice_index registers 2) es)
+first-waits registers us es = waits-reset us _ (activated-waits (first_unit Tti) (slice_index registers 2) es)
 
 keyboard-waits : (us : List UnitState) (es : List Event) → is_some (unit_at (code_of Tti) us) ≡ true → waits (first_unit Tti) (reset_events us es) ≡ true
 keyboard-waits [] es h = absurd (cc)

@@ -22,15 +22,15 @@ use Rattle.whole_files.specs.Writing.{write_act}
 use Rattle.nova_machine.specs.Seen.{attached_in}
 use Rattle.nova_machine.specs.Valid.{CopyIsFile}
 use Rattle.state_text.specs.declared.fault.StateFault.{StateFault}
-use Rattle.saved_files.specs.declared.saving.UnitPlace.{UnitPlace}
+use Rattle.saved_files.specs.declared.taking.UnitPlace.{UnitPlace}
 use Rattle.state_transfer.specs.Listening.{wants_port}
 use Rattle.saved_session.specs.Parts.{State, FilePart}
 use Rattle.saved_session.specs.Ranges.{kind_at}
 use Rattle.state_transfer.specs.PutBack.{machine_from, lines_from, put_back}
 use Rattle.saved_session.specs.SavedWatch.{watch_from}
 use Rattle.state_text.specs.Reading.{reading}
-use Rattle.saved_files.specs.Restoring.{FileRefusal, unit_of, is_only_read, mode_of, with_file as with_part, behind_attaching, refusal_of, at_unit, first_of, first_refused}
-use Rattle.saved_files.specs.Saving.{unit_at, place_of, file_places, saved_file, saved_at, saved_files, undigested, failing_first, first_undigested, unless_unflushed, files_flushed, first_unsaved}
+use Rattle.saved_files.specs.Putting.{FileRefusal, unit_of, is_only_read, mode_of, with_file as with_part, behind_attaching, refusal_of, at_unit, first_of, first_refused}
+use Rattle.saved_files.specs.Taking.{unit_at, place_of, file_places, saved_file, saved_at, saved_files, undigested, failing_first, first_undigested, unless_unflushed, files_flushed, first_unsaved}
 use Rattle.state_transfer.specs.Session.{saved_machine, saved_port, saved}
 use Rattle.saved_session.specs.SavedWatch.{saved_watch}
 use Rattle.state_text.specs.Text.{text}

@@ -15,8 +15,8 @@ use Rattle.state_text.specs.declared.fault.StateFault.{StateFault}
 use Rattle.state_transfer.specs.Listening.{wants_port}
 use Rattle.saved_session.specs.Parts.{State}
 use Rattle.state_text.specs.Reading.{reading}
-use Rattle.saved_files.specs.Restoring.{FileRefusal, first_refused}
-use Rattle.saved_files.specs.Saving.{first_unsaved}
+use Rattle.saved_files.specs.Putting.{FileRefusal, first_refused}
+use Rattle.saved_files.specs.Taking.{first_unsaved}
 use Rattle.state_transfer.specs.Session.{saved}
 use Rattle.state_text.specs.Text.{text}
 use Rattle.command_session.specs.declared.next.Next.{Next}

@@ -39,8 +39,8 @@ use Rattle.state_transfer.specs.Listening.{wants_port}
 use Rattle.saved_session.specs.Parts.{State}
 use Rattle.state_transfer.specs.PutBack.{machine_from, lines_from, put_back}
 use Rattle.state_text.specs.Reading.{reading}
-use Rattle.saved_files.specs.Restoring.{FileRefusal, with_all, at_unit}
-use Rattle.saved_files.specs.Saving.{first_unsaved, disk_flushed, files_flushed, copy_flushed}
+use Rattle.saved_files.specs.Putting.{FileRefusal, with_all, at_unit}
+use Rattle.saved_files.specs.Taking.{first_unsaved, disk_flushed, files_flushed, copy_flushed}
 use Rattle.state_transfer.specs.Session.{saved}
 use Rattle.state_text.specs.Text.{text}
 use Rattle.state_text.proofs.FitLaws.{texts-are-read}
@@ -169,6 +169,7 @@ flushed-machine : (m : MachineState) → ValidMachine m → ValidMachine (flushe
 flushed-machine m is = record {
   memory = is.memory;
   size = is.size;
+  rule = is.rule;
   cpu = is.cpu;
   mask = is.mask;
   switches = is.switches;

@@ -3,9 +3,12 @@ use Rattle.std.proofs.Common.{◌≡◌, ℕ, ◌+◌, ◌≤◌, ◌<◌, zero,
 use Rattle.std.proofs.Math.Seq.{take-suc}
 use Rattle.std.proofs.lemmas.List.{take_all, length-map}
 use Rattle.std.proofs.lemmas.Option.{slice_get-map, slice_get_within, get_or_from_slice_get}
+use Rattle.unit_trait.specs.declared.kind.Kind.{Kind}
 use Rattle.unit_trait.specs.Registers.{Register, registers}
 use Rattle.unit_trait.specs.Calls.{UnitState}
 use Rattle.unit_trait.specs.Row.{InRange, Fits}
+use Rattle.unit_trait.proofs.EveryKind.{every-kind}
+use Rattle.unit_trait.proofs.LineRegisters.{registers-many}
 
 -- one element more
 pub same-more : {A : Type 0} (xs ys : List A) (i : ℕ) (d : A) → i < length xs → i < length ys → take i xs ≡ take i ys → get_or xs i d ≡ get_or ys i d
@@ -44,3 +47,11 @@ no-initial rs i is = by-list (initials rs) i (slice_get-map (λ (r : Register). 
     by-list [] i none = omega arith
     by-list (v ∷ vs) zero none = absurd (cc)
     by-list (v ∷ vs) (suc i) none = omega (arith, by-list vs i none)
+
+-- a number of a register fits a byte
+few_registers : (kind : Kind) → length (registers kind) ≤ 131
+few_registers = every-kind (λ (k : Kind). length (registers k) ≤ 131)
+    (omega arith, omega arith, omega arith, omega arith, omega arith, omega arith, omega arith, omega arith, omega arith, omega arith, omega (arith, registers-many))
+
+pub few-initials : (kind : Kind) → length (initials (registers kind)) ≤ 131
+few-initials kind = let few = few_registers kind in let same = length-map (registers kind) (λ (r : Register). r.initial) in omega (arith, few, same)

@@ -1,12 +1,12 @@
 -- The disk's copy of its file over a turn and a run.
-use Rattle.std.proofs.Common.{◌≡◌, ◌≢◌, ◌↔◌, ◌&&◌, ℕ, ◌==◌, inl, inr, Bool, true, false, List, length, slice_index, nat_lt, Option, Some, None, option_map, IfSome, Result, Ok, Err, refl, ap, sym, subst, ◌∙◌, arith, if◌then◌else◌}
+use Rattle.std.proofs.Common.{◌≡◌, ◌≢◌, ◌↔◌, ◌&&◌, ℕ, ◌+◌, ◌%◌, ◌^◌, ◌==◌, inl, inr, Bool, true, false, List, length, slice_index, nat_lt, Option, Some, None, option_map, IfSome, Result, Ok, Err, refl, ap, sym, subst, ◌∙◌, arith, if◌then◌else◌}
 use Rattle.std.proofs.lemmas.Bool.{cond_both, cases_lt, le-ltb}
 use Rattle.std.proofs.lemmas.List.{length-map, get_or_past}
 use Rattle.file_traits.specs.Lists.{NamedBytes, bytes_of, changed}
 use Rattle.file_traits.proofs.Changes.{changed_elsewhere}
 use Rattle.nova_memory.specs.Memory.{MemoryState}
 use Rattle.unit_trait.specs.declared.kind.Kind.{Kind}
-use Rattle.unit_trait.specs.declared.kind.Kind.TheVariants.{Dsk, Mta}
+use Rattle.unit_trait.specs.declared.kind.Kind.TheVariants.{Dsk, Mta, Qty}
 use Rattle.unit_trait.specs.declared.kind.UnitName.{UnitName}
 use Rattle.unit_trait.specs.declared.calls.Want.{Want}
 use Rattle.unit_trait.specs.declared.calls.Want.TheVariants as want
@@ -19,6 +19,7 @@ use Rattle.unit_trait.specs.Writer.{writer_row}
 use Rattle.unit_trait.specs.Clock.{clock_row}
 use Rattle.unit_trait.specs.Keyboard.{keyboard_row}
 use Rattle.unit_trait.specs.Teleprinter.{teleprinter_row}
+use Rattle.unit_trait.specs.Multiplexer.{lines_of, lines_row, can_be_sent}
 use Rattle.unit_trait.specs.Calls.{UnitState, Due}
 use Rattle.unit_trait.specs.Row.{row_of}
 use Rattle.unit_trait.proofs.EveryKind.{every-kind}
@@ -58,10 +59,21 @@ IsOfKind kind (want.Tape order) = kind ≢ Dsk
 IsOfKind kind other = Unit {0}
 
 want-of : (kind : Kind) (values : List ℕ) (n : ℕ) → IsOfKind kind (row_of kind values (Due n)).want
-unfolding row_of reader_row writer_row clock_row keyboard_row teleprinter_row
+unfolding row_of reader_row writer_row clock_row keyboard_row teleprinter_row lines_row
 want-of kind values n =
-    every-kind (λ (k : Kind). IsOfKind k (row_of k values (Due n)).want)
-    (refl, (cond_both (slice_index values 4 == 2) want.Nothing (want.Tape (tape_order n values)) (IsOfKind Mta) (λ _. tt) (λ _ e. absurd (cc))), (λ e. absurd (cc)), tt, (λ e. absurd (cc)), tt, tt, tt, tt, tt, tt) kind
+    every-kind (λ (k : Kind). IsOfKind k (row_of k values (Due n)).want) (
+      refl,
+      (cond_both (slice_index values 4 == 2) want.Nothing (want.Tape (tape_order n values)) (IsOfKind Mta) (λ _. tt) (λ _ e. absurd (cc))),
+      (λ e. absurd (cc)),
+      tt,
+      (λ e. absurd (cc)),
+      tt,
+      tt,
+      tt,
+      tt,
+      tt,
+      cond_both (can_be_sent (slice_index (lines_of values).tx n)) (want.LinePut (n + 1) (slice_index (lines_of values).tx n % 2 ^ 8)) (want.LineKey (n + 1)) (IsOfKind Qty) (λ _. tt) (λ _. tt),
+    ) kind
 
 want-found : (kind : Kind) (n : ℕ) (there : Option UnitState) → IfSome there (λ u. u.kind ≡ kind) → IsOfKind kind (row_or_nothing (Due n) there).want
 want-found kind n None same = tt

@@ -1,5 +1,5 @@
 -- What the machine makes of a want leaves a valid state behind it, and its answer is one that the unit can be asked to take.
-use Rattle.std.proofs.Common.{ℕ, ◌^◌, ◌<◌, ◌==◌, Bool, nat_lt, List, [], ◌∷◌, length, get_or, slice_index, Option, Some, None, IfSome, Result, Ok, Err, arith}
+use Rattle.std.proofs.Common.{ℕ, ◌+◌, ◌%◌, ◌^◌, ◌<◌, ◌==◌, Bool, nat_lt, List, [], ◌∷◌, length, get_or, slice_index, Option, Some, None, IfSome, Result, Ok, Err, arith}
 use Rattle.std.proofs.lemmas.Bool.{cond_both, ltb-true}
 use Rattle.file_traits.specs.declared.files.FileCall.TheVariants.{Read, Write}
 use Rattle.file_traits.specs.Lists.{NamedBytes, bytes_of, changed}
@@ -17,6 +17,7 @@ use Rattle.unit_trait.specs.Writer.{writer_row}
 use Rattle.unit_trait.specs.Clock.{clock_row}
 use Rattle.unit_trait.specs.Keyboard.{keyboard_row}
 use Rattle.unit_trait.specs.Teleprinter.{teleprinter_row}
+use Rattle.unit_trait.specs.Multiplexer.{lines_of, lines_row, line_want, can_be_sent}
 use Rattle.unit_trait.specs.Registers.{registers}
 use Rattle.unit_trait.specs.Calls.{UnitState, Due}
 use Rattle.unit_trait.specs.Row.{row_of, InRange, Fits}
@@ -48,11 +49,17 @@ WritesByte (want.WriteByte place byte) = byte < 2 ^ 8
 WritesByte (want.LinePut line byte) = byte < 2 ^ 8
 WritesByte other = Unit {0}
 
+puts-byte : (n value : ℕ) → WritesByte (line_want n value)
+puts-byte n value = cond_both (can_be_sent value) (want.LinePut (n + 1) (value % 2 ^ 8)) (want.LineKey (n + 1)) WritesByte (λ _. mod-lt value {m = 2 ^ 8} (omega arith)) (λ _. tt)
+
+prints-none : (n value : ℕ) → PrintsByte (line_want n value)
+prints-none n value = cond_both (can_be_sent value) (want.LinePut (n + 1) (value % 2 ^ 8)) (want.LineKey (n + 1)) PrintsByte (λ _. tt) (λ _. tt)
+
 writes-of : (kind : Kind) (values : List ℕ) (n : ℕ) → InRange (registers kind) values → WritesByte (row_of kind values (Due n)).want
-unfolding row_of reader_row writer_row clock_row keyboard_row teleprinter_row
+unfolding row_of reader_row writer_row clock_row keyboard_row teleprinter_row lines_row
 writes-of kind values n =
     every-kind (λ (k : Kind). InRange (registers k) values → WritesByte (row_of k values (Due n)).want)
-    ((λ fits. tt), (λ fits. cond_both (slice_index values 4 == 2) want.Nothing (want.Tape (tape_order n values)) WritesByte (λ _. tt) (λ _. tt)), (λ fits. let held = held-within (registers Lpt) values 4 fits in omega (arith, held)), (λ fits. tt), (λ fits. let held = held-within (registers Ptp) values 4 fits in omega (arith, held)), (λ fits. tt), (λ fits. tt), (λ fits. tt), (λ fits. tt), (λ fits. let held = held-within (registers Tto1) values 3 fits in omega (arith, held)), (λ fits. tt)) kind
+    ((λ fits. tt), (λ fits. cond_both (slice_index values 4 == 2) want.Nothing (want.Tape (tape_order n values)) WritesByte (λ _. tt) (λ _. tt)), (λ fits. let held = held-within (registers Lpt) values 4 fits in omega (arith, held)), (λ fits. tt), (λ fits. let held = held-within (registers Ptp) values 4 fits in omega (arith, held)), (λ fits. tt), (λ fits. tt), (λ fits. tt), (λ fits. tt), (λ fits. let held = held-within (registers Tto1) values 3 fits in omega (arith, held)), (λ fits. puts-byte n (slice_index (lines_of values).tx n))) kind
 
 writes-found : (n : ℕ) (there : Option UnitState) → IfSome there Fits → WritesByte (row_or_nothing (Due n) there).want
 writes-found n None fits = tt
@@ -63,10 +70,10 @@ pub writes-in : (code n : ℕ) (us : List UnitState) → AllFit us → WritesByt
 writes-in code n us all = writes-found n (unit_at code us) (found-fits code us all)
 
 prints-of : (kind : Kind) (values : List ℕ) (n : ℕ) → PrintsByte (row_of kind values (Due n)).want
-unfolding row_of reader_row writer_row clock_row keyboard_row teleprinter_row
+unfolding row_of reader_row writer_row clock_row keyboard_row teleprinter_row lines_row
 prints-of kind values n =
     every-kind (λ (k : Kind). PrintsByte (row_of k values (Due n)).want)
-    (tt, cond_both (slice_index values 4 == 2) want.Nothing (want.Tape (tape_order n values)) PrintsByte (λ _. tt) (λ _. tt), tt, tt, tt, tt, tt, let low = mod-lt (slice_index values 3) {m = 2 ^ 7} (omega arith) in omega (arith, low), tt, tt, tt) kind
+    (tt, cond_both (slice_index values 4 == 2) want.Nothing (want.Tape (tape_order n values)) PrintsByte (λ _. tt) (λ _. tt), tt, tt, tt, tt, tt, let low = mod-lt (slice_index values 3) {m = 2 ^ 7} (omega arith) in omega (arith, low), tt, tt, prints-none n (slice_index (lines_of values).tx n)) kind
 
 prints-found : (n : ℕ) (there : Option UnitState) → PrintsByte (row_or_nothing (Due n) there).want
 prints-found n None = tt

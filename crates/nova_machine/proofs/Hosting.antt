@@ -1,9 +1,10 @@
 -- What a unit wants of the machine, by its kind.
-use Rattle.std.proofs.Common.{◌≡◌, ◌==◌, if◌then◌else◌, inl, inr, ℕ, ◌<◌, ◌≤◌, Bool, true, false, IsTrue, List, [], ◌∷◌, refl, ◌∙◌, ap, sym, subst, arith, Option, Some, None, zero, suc, slice_index, option_map, nat_lt, get_or, drop}
+use Rattle.std.proofs.Common.{◌≡◌, ◌==◌, if◌then◌else◌, inl, inr, ℕ, ◌+◌, ◌%◌, ◌^◌, ◌<◌, ◌≤◌, Bool, true, false, IsTrue, List, [], ◌∷◌, refl, ◌∙◌, ap, sym, subst, arith, Option, Some, None, zero, suc, slice_index, option_map, nat_lt, get_or, drop}
 use Rattle.std.specs.Prelude.{IfSome}
+use Rattle.std.proofs.lemmas.Bool.{cond_both}
 use Rattle.std.proofs.lemmas.Bool.Decides.{nat_tests}
 use Rattle.unit_trait.specs.declared.kind.Kind.{Kind}
-use Rattle.unit_trait.specs.declared.kind.Kind.TheVariants.{Dsk, Mta, Lpt, Ptr, Ptp}
+use Rattle.unit_trait.specs.declared.kind.Kind.TheVariants.{Dsk, Mta, Lpt, Ptr, Ptp, Qty}
 use Rattle.unit_trait.specs.declared.calls.Want.TheVariants as want
 use Rattle.unit_trait.specs.declared.calls.TapeOrder.{TapeOrder}
 use Rattle.unit_trait.specs.Kinds.{code_of, units_of}
@@ -13,6 +14,7 @@ use Rattle.unit_trait.specs.Writer.{writer_row}
 use Rattle.unit_trait.specs.Clock.{clock_row}
 use Rattle.unit_trait.specs.Keyboard.{keyboard_row}
 use Rattle.unit_trait.specs.Teleprinter.{teleprinter_row}
+use Rattle.unit_trait.specs.Multiplexer.{lines_of, lines_row, can_be_sent}
 use Rattle.unit_trait.specs.Device.{Register, position}
 use Rattle.unit_trait.specs.Registers.{registers}
 use Rattle.unit_trait.specs.Calls.{UnitState, Due}
@@ -69,7 +71,7 @@ tape-wants true order is = tt
 tape-wants false order is = (refl, is)
 
 wants-of : (kind : Kind) (values : List ℕ) (n : ℕ) → InRange (registers kind) values → CanBeHosted (row_of kind values (Due n)).want kind
-unfolding row_of reader_row writer_row clock_row keyboard_row teleprinter_row most_bytes disk_sectors
+unfolding row_of reader_row writer_row clock_row keyboard_row teleprinter_row lines_row most_bytes disk_sectors
 wants-of kind values n =
     every-kind (λ (k : Kind). InRange (registers k) values → CanBeHosted (row_of k values (Due n)).want k) (
       (λ fits.
@@ -85,7 +87,7 @@ wants-of kind values n =
       (λ fits. tt),
       (λ fits. tt),
       (λ fits. tt),
-      (λ fits. tt),
+      (λ fits. cond_both (can_be_sent (slice_index (lines_of values).tx n)) (want.LinePut (n + 1) (slice_index (lines_of values).tx n % 2 ^ 8)) (want.LineKey (n + 1)) (λ w. CanBeHosted w Qty) (λ _. tt) (λ _. tt)),
     ) kind
 
 unit-wants : (u : UnitState) (n : ℕ) → Fits u → CanBeHosted (row u (Due n)).want u.kind

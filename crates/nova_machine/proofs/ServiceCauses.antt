@@ -24,6 +24,7 @@ use Rattle.unit_trait.specs.Writer.{writer_row}
 use Rattle.unit_trait.specs.Clock.{clock_row}
 use Rattle.unit_trait.specs.Keyboard.{keyboard_row}
 use Rattle.unit_trait.specs.Teleprinter.{teleprinter_row}
+use Rattle.unit_trait.specs.Multiplexer.{lines_row}
 use Rattle.unit_list.specs.Bus.{unit_at, row_or_nothing, row_at, after_at}
 use Rattle.unit_list.proofs.Calls.{after-here}
 use Rattle.unit_list.proofs.Room.{kind-found}
@@ -173,7 +174,7 @@ teleprinter-stops kind print values n got.LineFull = goes-row kind got.LineFull 
 teleprinter-stops kind print values n g = goes-row kind g _ refl
 
 row-stops : (kind : Kind) (values : List ℕ) (n : ℕ) (g : Got) → StopsRow kind g (row_of kind values (Answered n g))
-unfolding row_of
+unfolding row_of lines_row
 row-stops Dsk values n g = disk-stops values n g
 row-stops Mta values n g = tape-stops values n g
 row-stops Lpt values n g = printer-stops values n g

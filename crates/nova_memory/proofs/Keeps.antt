@@ -7,8 +7,8 @@ use Rattle.std.proofs.lemmas.List.{get_or_past, get_or-set_other, get_or-set_sam
 use Rattle.std.proofs.lemmas.List.Elements.{All-set}
 use Rattle.nova_word.specs.Bits.{bits}
 use Rattle.nova_memory.specs.Memory.{MemoryState, IsMemory, get, put}
-use Rattle.nova_memory.specs.Address.{Reference, displaced, indexed, changed, chain, address}
-use Rattle.nova_memory.proofs.Chains.{chain-none, chain-end, chain-next, chain-size}
+use Rattle.nova_memory.specs.Address.{Reference, displaced, indexed, changed, tested, chain, address}
+use Rattle.nova_memory.proofs.Chains.{chain-none, chain-end, chain-next, chain-size, chain-rule}
 
 -- what stands at an address is a word
 pub get-word : (m : MemoryState) (a : ℕ) → IsMemory m → get m a < 2 ^ 16
@@ -64,11 +64,12 @@ pub chain-memory : (left : ℕ) (m : MemoryState) (a : ℕ) → IsMemory m → I
 chain-memory zero m a is = rw (chain-none 0 m a refl) is
 chain-memory (suc left) m a is =
     let v = changed a (get m a) in
+    let t = tested m.before (get m a) v in
     let after = put m a v in
     let stands : IsMemory after = put-memory m a v is (changed-word a (get m a) (get-word m a is)) in
-    elim (cases_lt v (2 ^ 15)) [
-      | inl low ↦ rw (chain-end (suc left) m after a v (omega arith) refl refl low) stands
-      | inr high ↦ rw (← chain-next (suc left) left m after a v (v % 2 ^ 15) (omega arith) refl refl high refl) (chain-memory left after (v % 2 ^ 15) stands)
+    elim (cases_lt t (2 ^ 15)) [
+      | inl low ↦ rw (chain-end (suc left) m after a v t (v % 2 ^ 15) (omega arith) refl refl refl low refl) stands
+      | inr high ↦ rw (← chain-next (suc left) left m after a v t (v % 2 ^ 15) (omega arith) refl refl refl high refl) (chain-memory left after (v % 2 ^ 15) stands)
     ]
 
 -- .. and its address, if it ends, is one of 15 bits
@@ -76,10 +77,11 @@ chain-low : (left : ℕ) (m : MemoryState) (a : ℕ) → IfSome (chain left m a)
 chain-low zero m a = rw (chain-none 0 m a refl) tt
 chain-low (suc left) m a =
     let v = changed a (get m a) in
+    let t = tested m.before (get m a) v in
     let after = put m a v in
-    elim (cases_lt v (2 ^ 15)) [
-      | inl low ↦ rw (chain-end (suc left) m after a v (omega arith) refl refl low) low
-      | inr high ↦ rw (← chain-next (suc left) left m after a v (v % 2 ^ 15) (omega arith) refl refl high refl) (chain-low left after (v % 2 ^ 15))
+    elim (cases_lt t (2 ^ 15)) [
+      | inl low ↦ rw (chain-end (suc left) m after a v t (v % 2 ^ 15) (omega arith) refl refl refl low refl) (omega arith)
+      | inr high ↦ rw (← chain-next (suc left) left m after a v t (v % 2 ^ 15) (omega arith) refl refl refl high refl) (chain-low left after (v % 2 ^ 15))
     ]
 
 displaced-low : (base d : ℕ) → displaced base d < 2 ^ 15
@@ -105,6 +107,9 @@ address-memory m w pc acs is = address-either (λ r. IsMemory r.memory) m w pc a
 
 pub address-size : (m : MemoryState) (w pc : ℕ) (acs : List ℕ) → (address m w pc acs).memory.size ≡ m.size
 address-size m w pc acs = address-either (λ r. r.memory.size ≡ m.size) m w pc acs (chain-size 16 m (indexed w pc acs)) refl
+
+pub address-rule : (m : MemoryState) (w pc : ℕ) (acs : List ℕ) → (address m w pc acs).memory.before ≡ m.before
+address-rule m w pc acs = address-either (λ r. r.memory.before ≡ m.before) m w pc acs (chain-rule 16 m (indexed w pc acs)) refl
 
 pub address-low : (m : MemoryState) (w pc : ℕ) (acs : List ℕ) → IfSome (address m w pc acs).address (λ (at : ℕ). at < 2 ^ 15)
 address-low m w pc acs = address-either (λ r. IfSome r.address (λ (at : ℕ). at < 2 ^ 15)) m w pc acs (chain-low 16 m (indexed w pc acs)) (indexed-low w pc acs)

@@ -1,3 +1,4 @@
 pub mod Blank
 pub mod Chains
 pub mod Keeps
+pub mod Rules

@@ -1,5 +1,5 @@
 -- The effective address of a memory reference (How to Use the Nova Computers, "Memory Reference Instructions").
-use Rattle.std.specs.Prelude.{ℕ, ◌+◌, ◌-◌, ◌%◌, ◌^◌, ◌<◌, ◌≤◌, ◌==◌, ◌&&◌, zero, suc, List, slice_index, nat_le, nat_lt, if◌then◌else◌, Option, Some, None}
+use Rattle.std.specs.Prelude.{Bool, ℕ, ◌+◌, ◌-◌, ◌%◌, ◌^◌, ◌<◌, ◌≤◌, ◌==◌, ◌&&◌, zero, suc, List, slice_index, nat_le, nat_lt, if◌then◌else◌, Option, Some, None}
 use Rattle.nova_word.specs.Bits.{bits}
 use Rattle.nova_memory.specs.Memory.{MemoryState, get, put}
 
@@ -27,19 +27,25 @@ changed a v =
     else if nat_le 0o30 a && nat_lt a 0o40 then (v + 2 ^ 16 - 1) % 2 ^ 16
     else v
 
+-- the word whose bit 0 says whether an indirect reference goes on, of the one that was read and the one that it was
+-- changed to: the first one by the rule of a test before the change
+abbrev pub tested : Bool → ℕ → ℕ → ℕ
+tested before read now = if before then read else now
+
 -- what a memory reference comes to: the memory after it, and its address, if its chain ends
 pub record Reference : Type 0 where
   pub memory : MemoryState
   pub address : Option ℕ
 
--- an indirect reference through an address, with so many levels left: the changed word is stored, and it is the address
--- where its bit 0 is 0, and else its low 15 bits are the next level
+-- an indirect reference through an address, with so many levels left: the changed word is stored, and its low 15 bits are
+-- the address where bit 0 of the tested word is 0, and else the next level
 unfoldable pub chain : ℕ → MemoryState → ℕ → Reference
 chain zero m a = record { memory = m; address = None }
 chain (suc left) m a =
     let v = changed a (get m a) in
     let after = put m a v in
-    if nat_lt v (2 ^ 15) then record { memory = after; address = Some v } else chain left after (v % 2 ^ 15)
+    if nat_lt (tested m.before (get m a) v) (2 ^ 15) then record { memory = after; address = Some (v % 2 ^ 15) }
+    else chain left after (v % 2 ^ 15)
 
 -- the memory reference of a word at that address, with those accumulators: bit 5 makes it indirect, up to 16 levels
 unfoldable pub address : MemoryState → ℕ → ℕ → List ℕ → Reference

@@ -1,12 +1,14 @@
--- The memory of a Nova: a list of 32768 words and a size. A place at or past the size reads 0, and a write there does
--- nothing.
-use Rattle.std.specs.Prelude.{◌≡◌, ℕ, ◌-◌, ◌%◌, ◌^◌, ◌<◌, ◌≤◌, ◌==◌, ◌&&◌, Bool, List, All, ◌++◌, length, take, replicate}
+-- The memory of a Nova: a list of 32768 words, a size, and the rule of its auto-index locations. A place at or past the
+-- size reads 0, and a write there does nothing.
+use Rattle.std.specs.Prelude.{◌≡◌, ℕ, ◌-◌, ◌%◌, ◌^◌, ◌<◌, ◌≤◌, ◌==◌, ◌&&◌, Bool, false, List, All, ◌++◌, length, take, replicate}
 use Rattle.std.specs.Prelude.{slice_index, slice_set, nat_lt, nat_le, if◌then◌else◌}
 
--- the words, and how many of them the machine has
+-- the words, and how many of them the machine has; and whether an indirect reference through an auto-index location tests
+-- bit 0 of the word there before it changes that, and not of the changed word
 pub record MemoryState : Type 0 where
   pub words : List ℕ
   pub size : ℕ
+  pub before : Bool
 
 -- what holds of every memory: it has its words, each of 16 bits, and those from the size on are 0
 pub record IsMemory (m : MemoryState) : Type 0 where
@@ -27,9 +29,9 @@ put m a v = if nat_lt a m.size then record m { words = slice_set m.words a v } e
 unfoldable pub blank_words : List ℕ
 blank_words = replicate (2 ^ 15) 0
 
--- what a new machine holds: 32768 words of 0
+-- what a new machine holds: 32768 words of 0. It tests bit 0 of the changed word.
 abbrev pub blank : MemoryState
-blank = record { words = blank_words; size = 2 ^ 15 }
+blank = record { words = blank_words; size = 2 ^ 15; before = false }
 
 -- a size that a machine may be given: 4096 words or a multiple of that, up to 32768
 pub record IsSize (words : ℕ) : Type 0 where
@@ -43,4 +45,8 @@ fits_size k = nat_le 4 k && nat_le k 32 && k % 4 == 0
 
 -- the memory with that size: the words below it stay, and all others are 0
 abbrev pub resized : MemoryState → ℕ → MemoryState
-resized m words = record { words = take words m.words ++ replicate (2 ^ 15 - words) 0; size = words }
+resized m words = record m { words = take words m.words ++ replicate (2 ^ 15 - words) 0; size = words }
+
+-- the memory with that rule
+abbrev pub by_rule : Bool → MemoryState → MemoryState
+by_rule before m = record m { before = before }

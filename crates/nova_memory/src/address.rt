@@ -1,12 +1,12 @@
 ghost use Rattle.std.specs.Prelude.{◌≡◌, ℕ, ◌^◌, ◌<◌, ◌≤◌, IfOk};
 ghost use Rattle.std.specs.Result.{result_ok};
 ghost use Rattle.nova_memory.specs.Memory.{get, put};
-ghost use Rattle.nova_memory.specs.Address.{IsAutoIndex, displaced, indexed, changed, chain, address};
+ghost use Rattle.nova_memory.specs.Address.{IsAutoIndex, displaced, indexed, changed, tested, chain, address};
 
 use crate::words::Words;
 use nova_word::{Addr, Word};
 
-/// The 16th word of an indirect chain still has bit 0 set.
+/// The 16th word of an indirect chain whose bit 0 is tested still has it set.
 #[derive(Clone, Copy, Debug, PartialEq, Eq)]
 pub struct ChainLimit;
 
@@ -41,10 +41,10 @@ impl Words {
     {
         let mut at = from;
         for _level in 0..16u8 {
-            let word = self.follow(at);
-            match Addr::new(word.0) {
-                Some(end) => return Ok(end),
-                None => at = Addr::of_word(word),
+            let level = self.follow(at);
+            at = Addr::of_word(level.used);
+            if level.tested.0 < 0o100000 {
+                return Ok(at);
             }
         }
         Err(ChainLimit)
@@ -52,18 +52,33 @@ impl Words {
 
     /// The word through which an indirect reference passes there, changed and stored.
     #[inline(always)]
-    fn follow(&mut self, at: Addr) -> Word
-        ensures word { result ≡ changed at (get self.old at) }
+    fn follow(&mut self, at: Addr) -> Level
+        ensures used { result.used ≡ changed at (get self.old at) }
+        ensures tested { result.tested ≡ tested self.old.before (get self.old at) (changed at (get self.old at)) }
         ensures memory { self.new ≡ put self.old at (changed at (get self.old at)) }
     {
         let word = self.read(at);
         if at.number() / 16 != 1 {
-            return word;
+            return Level {
+                used: word,
+                tested: word,
+            };
         }
-        let next = changed(at, word);
-        self.write(at, next);
-        next
+        let used = changed(at, word);
+        self.write(at, used);
+        Level {
+            used,
+            tested: if self.before { word } else { used },
+        }
     }
+}
+
+/// What an indirect reference meets at one level: the word that it goes by, and the one whose bit 0 says whether it
+/// goes on.
+#[derive(Clone, Copy)]
+struct Level {
+    used: Word,
+    tested: Word,
 }
 
 /// The address that a memory reference, which stands at `pc`, names before it is followed. One accumulator is read at

@@ -2,6 +2,7 @@
 #![tactic(auto)]
 
 pub mod address;
+pub mod laws;
 pub mod memory;
 pub mod words;
 

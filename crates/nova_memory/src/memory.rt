@@ -25,7 +25,7 @@ impl Model for Memory {
 }
 
 impl Memory {
-    ghost use Rattle.nova_memory.specs.Memory.{IsMemory, IsSize, get, put, blank, resized};
+    ghost use Rattle.nova_memory.specs.Memory.{IsMemory, IsSize, get, put, blank, resized, by_rule};
     ghost use Rattle.nova_memory.specs.Whole.{memory_of};
 
     /// A memory of 32768 words of 0.
@@ -85,10 +85,25 @@ impl Memory {
     /// from 4096 to 32768. What stood there is lost.
     pub fn set_words(&mut self, words: &[u16])
         requires { IsSize (length words.now) }
-        ensures whole { self.new ≡ memory_of words.now }
+        ensures whole { self.new ≡ memory_of self.old.before words.now }
         ensures words { (a : ℕ) → get self.new a ≡ slice_index words.now a }
     {
         self.inside.set_words(words);
+    }
+
+    /// Whether an indirect reference through an auto-index location tests bit 0 of the word there before it changes
+    /// that, and not of the changed word.
+    pub fn autobit(&self) -> bool
+        ensures { result ≡ self.now.before }
+    {
+        self.inside.before
+    }
+
+    /// Makes such references test bit 0 before the change, or behind it. Nothing else changes.
+    pub fn set_autobit(&mut self, before: bool)
+        ensures { self.new ≡ by_rule before self.old }
+    {
+        self.inside.before = before;
     }
 
     /// The effective address of the memory reference `word`, which stands at `pc`.

@@ -4,12 +4,13 @@ ghost use Rattle.nova_memory.specs.Memory.{blank_words, IsSize, fits_size};
 use nova_word::{Addr, Word};
 use std::marker::Model;
 
-/// The words of a machine's memory, and how many of them there are. Who executes many instructions borrows them once,
-/// and so reads no pointer for each word.
+/// The words of a machine's memory, how many of them there are, and the rule of its auto-index locations. Who executes
+/// many instructions borrows them once, and so reads no pointer for each word.
 #[derive(Drop)]
 pub struct Words {
     pub(crate) words: [u16; 32768],
     pub(crate) size: u16,
+    pub(crate) before: bool,
 }
 
 impl Model for Words {
@@ -17,9 +18,9 @@ impl Model for Words {
 
     ghost Value = { MemoryState };
 
-    ghost view = { λ m. record { words = m.words; size = m.size } };
+    ghost view = { λ m. record { words = m.words; size = m.size; before = m.before } };
 
-    ghost invariant = { λ m. IsMemory (record { words = m.words; size = m.size }) × IsSize m.size };
+    ghost invariant = { λ m. IsMemory (record { words = m.words; size = m.size; before = m.before }) × IsSize m.size };
 }
 
 impl Words {
@@ -34,6 +35,7 @@ impl Words {
         Words {
             words: zeros(),
             size: 32768,
+            before: false,
         }
     }
 
@@ -88,7 +90,7 @@ impl Words {
     /// Gives the machine these words, from address 0 on, and no others.
     pub(crate) fn set_words(&mut self, words: &[u16])
         requires { IsSize (length words.now) }
-        ensures { self.new ≡ memory_of words.now }
+        ensures { self.new ≡ memory_of self.old.before words.now }
     {
         let count = words.len();
         self.words[..count].copy_from_slice(words);

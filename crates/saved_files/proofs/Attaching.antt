@@ -21,9 +21,9 @@ use Rattle.unit_files.specs.Acts.{buffer_by, said_unless, opened_said, read_whol
 use Rattle.unit_files.specs.Digests.{digest_measured}
 use Rattle.saved_session.specs.Parts.{FilePart}
 use Rattle.saved_session.specs.Ranges.{kind_at}
-use Rattle.saved_files.specs.Restoring.{unit_of, is_only_read, mode_of, CallFails, behind_attaching, compared}
-use Rattle.saved_files.specs.Restoring.{refusal_of}
-use Rattle.saved_files.specs.RestoringOne.{CompareCalls, Compares, SaysOne, failure_of}
+use Rattle.saved_files.specs.Putting.{unit_of, is_only_read, mode_of, CallFails, behind_attaching, compared}
+use Rattle.saved_files.specs.Putting.{refusal_of}
+use Rattle.saved_files.specs.PuttingOne.{CompareCalls, Compares, SaysOne, failure_of}
 
 -- ---- no file is made or emptied
 

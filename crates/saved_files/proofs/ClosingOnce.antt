@@ -19,9 +19,9 @@ use Rattle.unit_files.specs.Causes.{AreFrom, AtMostOnceMore, DetachCause, IsFaul
 use Rattle.unit_files.specs.Open.{HaveOwnNumbers}
 use Rattle.saved_files.specs.declared.file_faults.RestoreFault.{RestoreFault}
 use Rattle.saved_files.specs.declared.file_faults.RestoreFault.TheVariants as fault
-use Rattle.saved_files.specs.RestoringOne.{CompareCalls, CompareCause, OnlyItsCount}
-use Rattle.saved_files.specs.RestoreCauses.{is_on, count_behind, ClosesOnce, ClosesOthers, HaveGivenNumbers}
-use Rattle.saved_files.proofs.RestoreCounts.{none-held}
+use Rattle.saved_files.specs.PuttingOne.{CompareCalls, CompareCause, OnlyItsCount}
+use Rattle.saved_files.specs.PuttingCauses.{is_on, count_behind, ClosesOnce, ClosesOthers, HaveGivenNumbers}
+use Rattle.saved_files.proofs.PuttingCounts.{none-held}
 use Rattle.saved_files.proofs.Together.{none-at}
 
 -- ---- counts that have risen by what is answered

@@ -9,8 +9,8 @@ use Rattle.unit_files.specs.Buffer.{AttachedFiles, Buffer, no_buffer, nothing_at
 use Rattle.saved_files.specs.GivingBack.{IsHeldIn, IsNoDisk, without_all, copy_behind}
 use Rattle.saved_session.specs.Parts.{FilePart}
 use Rattle.saved_session.specs.Ranges.{kind_at}
-use Rattle.saved_files.specs.Restoring.{unit_of, attachment_of, with_file, with_all}
-use Rattle.saved_files.specs.RestoringOne.{AreOfTwo, AreApart, IsAsRead, IsFree}
+use Rattle.saved_files.specs.Putting.{unit_of, attachment_of, with_file, with_all}
+use Rattle.saved_files.specs.PuttingOne.{AreOfTwo, AreApart, IsAsRead, IsFree}
 use Rattle.saved_files.proofs.Attaching.{set-back}
 use Rattle.saved_files.proofs.Together.{still-free, all-free, nothing-held}
 

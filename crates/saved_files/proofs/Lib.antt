@@ -3,8 +3,8 @@ pub mod Digesting
 pub mod Together
 pub mod ValidFiles
 pub mod GivingBackLemmas
-pub mod RestoreCounts
-pub mod SavingLaws
+pub mod PuttingCounts
+pub mod TakingLaws
 pub mod ClosingOnce
-pub mod RestoreOpenings
+pub mod PuttingOpenings
 pub mod InStep

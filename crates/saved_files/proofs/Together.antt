@@ -26,12 +26,12 @@ use Rattle.saved_files.specs.declared.file_faults.RestoreFault.{RestoreFault}
 use Rattle.saved_files.specs.declared.file_faults.RestoreFault.TheVariants as fault
 use Rattle.saved_session.specs.Parts.{FilePart, file_in}
 use Rattle.saved_session.specs.Ranges.{kind_at}
-use Rattle.saved_files.specs.Restoring.{files_in, unit_of, FileRefusal, IsMissing, IsTooLong, HasChanged, CallFails}
-use Rattle.saved_files.specs.Restoring.{refusal_of}
-use Rattle.saved_files.specs.Restoring.{attachment_of, with_file, at_unit, first_of, first_refused, claim_in, Says}
-use Rattle.saved_files.specs.Restoring.{IsUnitOf}
-use Rattle.saved_files.specs.Restoring.{IsOfThese, copy_of}
-use Rattle.saved_files.specs.RestoringOne.{CanAttach, IsFree, AreOfTwo, AreApart, IsClean, IsAsRead, IsOf, failure_of, SaysOne}
+use Rattle.saved_files.specs.Putting.{files_in, unit_of, FileRefusal, IsMissing, IsTooLong, HasChanged, CallFails}
+use Rattle.saved_files.specs.Putting.{refusal_of}
+use Rattle.saved_files.specs.Putting.{attachment_of, with_file, at_unit, first_of, first_refused, claim_in, Says}
+use Rattle.saved_files.specs.Putting.{IsUnitOf}
+use Rattle.saved_files.specs.Putting.{IsOfThese, copy_of}
+use Rattle.saved_files.specs.PuttingOne.{CanAttach, IsFree, AreOfTwo, AreApart, IsClean, IsAsRead, IsOf, failure_of, SaysOne}
 
 -- ---- what is said
 

@@ -15,7 +15,7 @@ use Rattle.unit_files.specs.Attachments.{only_writes as writes_only}
 use Rattle.saved_session.specs.Parts.{FilePart}
 use Rattle.saved_session.specs.Ranges.{kind_at, FilePlace, only_writes, is_flag, is_name_length}
 use Rattle.saved_session.specs.Order.{behind_file, place_of}
-use Rattle.saved_files.specs.RestoringOne.{CanAttach, AreOfTwo, AreApart}
+use Rattle.saved_files.specs.PuttingOne.{CanAttach, AreOfTwo, AreApart}
 use Rattle.saved_session.specs.Valid.{Follow, IsFile, AreFiles}
 
 -- ---- each can be attached

@@ -8,7 +8,7 @@ use Rattle.unit_files.specs.Acts.{detached}
 use Rattle.unit_files.specs.Buffer.{Buffer, no_buffer}
 use Rattle.saved_session.specs.Parts.{FilePart}
 use Rattle.saved_session.specs.Ranges.{kind_at}
-use Rattle.saved_files.specs.Restoring.{unit_of}
+use Rattle.saved_files.specs.Putting.{unit_of}
 
 -- the unit of a file has one
 abbrev pub IsHeldIn : List (Option Attachment) → FilePart → Type 0

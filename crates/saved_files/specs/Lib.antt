@@ -1,6 +1,6 @@
-pub mod Restoring
-pub mod RestoringOne
-pub mod RestoreCauses
-pub mod Saving
-pub mod SavingOne
+pub mod Putting
+pub mod PuttingOne
+pub mod PuttingCauses
+pub mod Taking
+pub mod TakingOne
 pub mod GivingBack

@@ -2,10 +2,10 @@
 #![tactic(auto)]
 
 pub mod file_faults;
-pub mod restoring;
-pub mod saving;
+pub mod putting;
+pub mod taking;
 pub mod unit_digest;
 
 pub use file_faults::{RestoreFault, SaveFault};
-pub use restoring::{attach_all, give_back_all};
-pub use saving::digest_all;
+pub use putting::{attach_all, give_back_all};
+pub use taking::digest_all;

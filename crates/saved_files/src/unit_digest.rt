@@ -4,7 +4,7 @@ ghost use Rattle.file_traits.specs.Lists.{bytes_of};
 ghost use Rattle.unit_files.specs.Attachments.{Attachment, attachments_of, attachment_at, takes_attachment};
 ghost use Rattle.unit_files.specs.Digests.{digest_measured};
 ghost use Rattle.unit_files.specs.Open.{AllOpen};
-ghost use Rattle.saved_files.specs.RestoringOne.{said_of_reading, failure_of_reading, ReadingCause};
+ghost use Rattle.saved_files.specs.PuttingOne.{said_of_reading, failure_of_reading, ReadingCause};
 
 use file_traits::Files;
 use unit_files::{Attached, DetachFault, FileDigest, UnitFault};

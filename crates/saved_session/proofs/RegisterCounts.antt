@@ -2,6 +2,7 @@
 use Rattle.std.proofs.Common.{◌<◌, ◌^◌, arith}
 use Rattle.unit_trait.specs.declared.kind.Kind.{Kind}
 use Rattle.unit_trait.specs.declared.kind.Kind.TheVariants.{Dsk, Mta, Lpt, Ptr, Ptp, Clk, Tti, Tto, Tti1, Tto1, Qty}
+use Rattle.unit_trait.proofs.LineRegisters.{registers-many}
 use Rattle.saved_session.specs.Ranges.{register_count}
 
 pub few_registers : (kind : Kind) → register_count kind < 2 ^ 8
@@ -16,4 +17,4 @@ few_registers Tti = omega arith
 few_registers Tto = omega arith
 few_registers Tti1 = omega arith
 few_registers Tto1 = omega arith
-few_registers Qty = omega arith
+few_registers Qty = omega (arith, registers-many)

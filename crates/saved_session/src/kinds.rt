@@ -31,10 +31,10 @@ pub fn kind_at(position: u8) -> Kind
 }
 
 /// How many registers the units of a kind have.
-#[tactic(auto, unfolding(crate::specs::Ranges::register_count))]
+#[tactic(auto, using(unit_trait::proofs::LineRegisters::line_registers), unfolding(crate::specs::Ranges::register_count))]
 pub fn register_count(kind: Kind) -> u8
     ensures count { result ≡ register_count kind }
-    ensures few { result ≤ 17 }
+    ensures few { result ≤ 131 }
 {
     match kind {
         Kind::Dsk => 8,
@@ -42,7 +42,7 @@ pub fn register_count(kind: Kind) -> u8
         Kind::Lpt | Kind::Ptr | Kind::Ptp => 6,
         Kind::Clk => 3,
         Kind::Tti | Kind::Tto | Kind::Tti1 | Kind::Tto1 => 4,
-        Kind::Qty => 0,
+        Kind::Qty => 131,
     }
 }
 

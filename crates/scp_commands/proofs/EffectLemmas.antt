@@ -66,8 +66,8 @@ use Rattle.state_text.specs.declared.fault.StateFault.{StateFault}
 use Rattle.state_transfer.specs.Listening.{wants_port}
 use Rattle.saved_session.specs.Parts.{State}
 use Rattle.state_text.specs.Reading.{reading}
-use Rattle.saved_files.specs.Restoring.{FileRefusal}
-use Rattle.saved_files.specs.Saving.{first_unsaved, disk_flushed, copy_flushed}
+use Rattle.saved_files.specs.Putting.{FileRefusal}
+use Rattle.saved_files.specs.Taking.{first_unsaved, disk_flushed, copy_flushed}
 use Rattle.state_transfer.specs.Session.{saved}
 use Rattle.state_text.specs.Text.{text}
 use Rattle.command_session.specs.TapeEffects.{tape_in, tape_answer, tape_machine, loaded_machine, load_answer, load_reply, can_dump, dump_of, dump_answer, dump_after, dump_reply}

@@ -1,5 +1,5 @@
 -- The registers of devices: where they are, what they can hold, and what setting one leaves.
-use Rattle.std.proofs.Common.{◌≡◌, inl, inr, ℕ, ◌+◌, ◌<◌, ◌≤◌, ◌==◌, ◌||◌, zero, suc, Bool, true, false, List, [], ◌∷◌, length, Contains, slice_get, slice_set, Option, Some, None, is_some, option_map, option_and_then, if◌then◌else◌, refl, sym, ap, subst, ◌∙◌, arith}
+use Rattle.std.proofs.Common.{◌≡◌, inl, inr, ℕ, ◌+◌, ◌<◌, ◌≤◌, ◌==◌, ◌||◌, zero, suc, Bool, true, false, List, [], ◌∷◌, length, Contains, slice_get, slice_set, Option, Some, None, is_some, option_map, option_and_then, option_to_list, if◌then◌else◌, refl, sym, ap, subst, ◌∙◌, arith}
 use Rattle.std.proofs.lemmas.Option.{same_Some}
 use Rattle.std.proofs.lemmas.Bool.{cases_eq, eqb-true, eq-eqb}
 use Rattle.unit_trait.specs.declared.kind.Kind.{Kind}
@@ -12,6 +12,7 @@ use Rattle.unit_trait.specs.Processor.{all_registers}
 use Rattle.unit_trait.specs.Calls.{UnitState}
 use Rattle.unit_trait.specs.Row.{InRange, Fits, takes_value}
 use Rattle.unit_trait.proofs.Codes.{same-code}
+use Rattle.unit_trait.proofs.LineRegisters.{registers-many}
 use Rattle.unit_trait.proofs.EveryKind.{every-kind}
 use Rattle.unit_trait.proofs.Ranges.{set-within, taken-within}
 use Rattle.unit_list.specs.Bus.{unit_at, register_in, with_register, with_register_in, kinds_of, AllFit}
@@ -44,6 +45,21 @@ pub named-unit : (kind : Kind) (i : ℕ) → named_register (whose.Device kind) 
 unfolding named_register
 named-unit kind i = numbered-at kind (registers kind) 0 i i (omega arith)
 
+listed-once : {A B : Type 0} (y : B) (o : Option A) → is_some o ≡ true → y ∷ [] ≡ option_to_list (option_map (λ x. y) o)
+listed-once y None is = cc
+listed-once y (Some x) is = refl
+
+listed-never : {A B : Type 0} (y : B) (o : Option A) → is_some o ≡ false → [] ≡ option_to_list (option_map (λ x. y) o)
+listed-never y None is = refl
+listed-never y (Some x) is = cc
+
+-- a register that is there is the one place of its number, and one that is not is none
+pub unit-listed : (kind : Kind) (i : ℕ) → is_some (register_at kind i) ≡ true → UnitRegister kind i ∷ [] ≡ option_to_list (named_register (whose.Device kind) i)
+unit-listed kind i there = listed-once (UnitRegister kind i) (register_at kind i) there ∙ ap option_to_list (sym (named-unit kind i))
+
+pub unit-unlisted : (kind : Kind) (i : ℕ) → is_some (register_at kind i) ≡ false → [] ≡ option_to_list (named_register (whose.Device kind) i)
+unit-unlisted kind i none = listed-never (UnitRegister kind i) (register_at kind i) none ∙ ap option_to_list (sym (named-unit kind i))
+
 some-map : {A B : Type 0} (f : A → B) (o : Option A) → is_some (option_map f o) ≡ is_some o
 some-map f None = refl
 some-map f (Some x) = refl
@@ -71,8 +87,9 @@ register_count-found kind i h none = let past = past-none (registers kind) i non
 pub register_count-more : (kind : Kind) (i : ℕ) → is_some (register_at kind i) ≡ true → i + 1 ≤ length (registers kind)
 register_count-more kind i some = let within = within-some (registers kind) i some in omega (arith, within)
 
-pub few_registers : (kind : Kind) → length (registers kind) ≤ 17
-few_registers = every-kind (λ (k : Kind). length (registers k) ≤ 17) (omega arith, omega arith, omega arith, omega arith, omega arith, omega arith, omega arith, omega arith, omega arith, omega arith, omega arith)
+pub few_registers : (kind : Kind) → length (registers kind) ≤ 131
+few_registers = every-kind (λ (k : Kind). length (registers k) ≤ 131)
+    (omega arith, omega arith, omega arith, omega arith, omega arith, omega arith, omega arith, omega arith, omega arith, omega arith, omega (arith, registers-many))
 
 -- Which units there are.
 

@@ -12,6 +12,7 @@ use Rattle.std.proofs.lemmas.Option.{slice_get_within, get_or_from_slice_get}
 use Rattle.nova_word.specs.Numbers.{IsDigit}
 use Rattle.unit_trait.specs.declared.kind.Kind.{Kind}
 use Rattle.unit_trait.specs.declared.kind.Kind.TheVariants.{Dsk, Mta, Lpt, Ptr, Ptp, Clk, Tti, Tto, Tti1, Tto1, Qty}
+use Rattle.unit_trait.specs.Multiplexer.{line_numbers}
 use Rattle.unit_trait.proofs.EveryKind.{every-kind}
 use Rattle.operand_forms.specs.declared.listing.Name.{Name}
 use Rattle.operand_forms.specs.declared.listing.Name.TheVariants.{Cpu, Device}
@@ -42,6 +43,7 @@ upper_no_rel (b ∷ more) =
     ap (λ (c : Bool). c && no_rel (str_to_ascii_uppercase more)) (upper_rel b) ∙ ap (λ (c : Bool). not (is_rel_byte b) && c) (upper_no_rel more)
 
 registers_no_rel : (device : Name) → list_all no_rel (register_names device) ≡ true
+unfolding line_numbers
 registers_no_rel Cpu = refl
 registers_no_rel (Device kind) = every-kind (λ (k : Kind). list_all no_rel (register_names (Device k)) ≡ true) (refl, refl, refl, refl, refl, refl, refl, refl, refl, refl, refl) kind
 

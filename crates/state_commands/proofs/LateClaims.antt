@@ -13,10 +13,10 @@ use Rattle.unit_files.specs.Buffer.{Buffer, disk_unit}
 use Rattle.unit_files.specs.Digests.{digest_unless, digest_read, digest_measured, digest_flushed}
 use Rattle.file_commands.specs.declared.note.Subject.{Subject}
 use Rattle.file_commands.specs.Notes.{CommandNote}
-use Rattle.saved_files.specs.declared.saving.UnitPlace.{UnitPlace}
+use Rattle.saved_files.specs.declared.taking.UnitPlace.{UnitPlace}
 use Rattle.saved_session.specs.Parts.{FilePart}
-use Rattle.saved_files.specs.Restoring.{at_unit, unit_of, mode_of, is_only_read, behind_attaching, compared, refusal_of, first_of, first_refused, with_file}
-use Rattle.saved_files.specs.Saving.{unit_at, file_places, undigested, failing_first, first_undigested, disk_flushed, files_flushed, copy_flushed, unless_unflushed, first_unsaved}
+use Rattle.saved_files.specs.Putting.{at_unit, unit_of, mode_of, is_only_read, behind_attaching, compared, refusal_of, first_of, first_refused, with_file}
+use Rattle.saved_files.specs.Taking.{unit_at, file_places, undigested, failing_first, first_undigested, disk_flushed, files_flushed, copy_flushed, unless_unflushed, first_unsaved}
 use Rattle.command_session.specs.Live.{Live}
 use Rattle.command_session.specs.Doing.{ComeBehind, IsLastCall}
 use Rattle.state_commands.specs.StateEffects.{claim_by, unit_claim}

@@ -30,7 +30,7 @@ use Rattle.state_text.specs.declared.fault.StateFault.{StateFault}
 use Rattle.state_text.specs.declared.fault.StateFault.TheVariants as state
 use Rattle.saved_session.specs.Parts.{State}
 use Rattle.state_text.specs.Reading.{reading}
-use Rattle.saved_files.specs.Restoring.{FileRefusal, CallFails, first_refused}
+use Rattle.saved_files.specs.Putting.{FileRefusal, CallFails, first_refused}
 use Rattle.command_session.specs.declared.next.Next.TheVariants.{Ran}
 use Rattle.command_session.specs.declared.fault.CommandFault.TheVariants.{Console, OutOfMemory, AlreadyAttached, NoFile, FileTooLong, FileFailed}
 use Rattle.state_commands.specs.StateFaults.{state_fault}
@@ -48,7 +48,7 @@ use Rattle.unit_files.specs.Attachments.{is_any_attached}
 use Rattle.whole_files.specs.Claims.{said_of as said_of_whole, said_of_bytes}
 use Rattle.nova_machine.specs.Machine.{MachineState}
 use Rattle.nova_machine.specs.Seen.{erased}
-use Rattle.state_text.specs.Readers.{Fails}
+use Rattle.state_text.specs.Gives.{Fails}
 use Rattle.command_session.specs.Occupied.{has_port}
 use Rattle.command_session.proofs.SeenLemmas.{attached-erased}
 use Rattle.command_session.proofs.CloseLemmas.{said-append}

@@ -13,7 +13,7 @@ use Rattle.saved_files.specs.declared.file_faults.RestoreFault.TheVariants as re
 use Rattle.state_transfer.specs.Listening.{wants_port, with_port, IsListening, IsRefusedPort, LeavesLines, AreClosed}
 use Rattle.saved_session.specs.Parts.{State}
 use Rattle.state_transfer.specs.PutBack.{put_back}
-use Rattle.saved_files.specs.Restoring.{FileRefusal, SaysFirst}
+use Rattle.saved_files.specs.Putting.{FileRefusal, SaysFirst}
 use Rattle.command_session.specs.declared.next.Next.TheVariants.{Go}
 use Rattle.command_session.specs.declared.fault.CommandFault.TheVariants.{PortFailed}
 use Rattle.state_commands.specs.StateFaults.{restore_fault}
@@ -36,7 +36,7 @@ use Rattle.nova_machine.specs.Comes.{Output}
 use Rattle.nova_machine.specs.Seen.{attached_in}
 use Rattle.state_transfer.specs.Listening.{IsPortFault}
 use Rattle.state_text.specs.Reading.{reading}
-use Rattle.saved_files.specs.Restoring.{IsMissing, IsTooLong, HasChanged, claim_in, first_refused}
+use Rattle.saved_files.specs.Putting.{IsMissing, IsTooLong, HasChanged, claim_in, first_refused}
 use Rattle.command_session.specs.declared.fault.CommandFault.TheVariants.{NoFile, FileTooLong, Changed}
 use Rattle.command_session.specs.Reply.{Answer}
 use Rattle.command_session.specs.Occupied.{is_occupied}

@@ -33,7 +33,7 @@ use Rattle.whole_files.specs.Claims.{HasShape, is_failed, is_missing, raised_by}
 use Rattle.whole_files.specs.Claims as claims
 use Rattle.saved_files.specs.declared.file_faults.RestoreFault.{RestoreFault}
 use Rattle.saved_files.specs.declared.file_faults.RestoreFault.TheVariants as restore
-use Rattle.saved_files.specs.RestoreCauses.{is_on, openings_named, ClosesOnce, OpensEach, IsRestoreFault, SessionCause}
+use Rattle.saved_files.specs.PuttingCauses.{is_on, openings_named, ClosesOnce, OpensEach, IsRestoreFault, SessionCause}
 use Rattle.command_session.specs.declared.next.Next.TheVariants.{Go}
 use Rattle.command_session.specs.declared.fault.CommandFault.TheVariants.{OutOfMemory, NoFile, PortFailed}
 use Rattle.command_session.specs.FaultText.{whole_fault}

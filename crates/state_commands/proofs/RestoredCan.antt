@@ -3,7 +3,7 @@ use Rattle.std.proofs.Common.{◌≡◌, Bool, Err, sym, subst}
 use Rattle.command_session.specs.declared.fault.CommandFault.{CommandFault}
 use Rattle.saved_files.specs.declared.file_faults.RestoreFault.{RestoreFault}
 use Rattle.saved_files.specs.declared.file_faults.RestoreFault.TheVariants as restore
-use Rattle.saved_files.specs.RestoreCauses.{IsCompared}
+use Rattle.saved_files.specs.PuttingCauses.{IsCompared}
 use Rattle.state_commands.specs.StateFaults.{restore_fault}
 use Rattle.command_session.specs.Answers.{OfRestore}
 

@@ -23,7 +23,7 @@ use Rattle.whole_files.specs.Writing.{WriteSaid, write_act, said_of_writing, cla
 use Rattle.nova_machine.specs.Comes.{Output}
 use Rattle.nova_machine.specs.Machine.{MachineState, attached_files}
 use Rattle.nova_machine.specs.Seen.{attached_in}
-use Rattle.saved_files.specs.Saving.{first_unsaved, disk_flushed, files_flushed, copy_flushed}
+use Rattle.saved_files.specs.Taking.{first_unsaved, disk_flushed, files_flushed, copy_flushed}
 use Rattle.state_transfer.specs.Session.{saved}
 use Rattle.state_text.specs.Text.{text}
 use Rattle.command_session.specs.declared.fault.CommandFault.TheVariants.{FileFailed}
@@ -58,7 +58,7 @@ use Rattle.nova_machine.specs.Seen.{erased, seen, beside}
 use Rattle.saved_session.specs.declared.saved.Saved.{Saved}
 use Rattle.saved_files.specs.declared.file_faults.SaveFault.{SaveFault}
 use Rattle.saved_files.specs.declared.file_faults.SaveFault.TheVariants as save
-use Rattle.saved_files.specs.Saving.{save_claim, UnlessNoMemory, IfNoMemory, SaveCause}
+use Rattle.saved_files.specs.Taking.{save_claim, UnlessNoMemory, IfNoMemory, SaveCause}
 use Rattle.command_session.specs.declared.next.Next.TheVariants.{Ran}
 use Rattle.command_session.specs.declared.fault.CommandFault.TheVariants.{NoFile, Console}
 use Rattle.state_commands.specs.StateFaults.{save_fault}

@@ -11,7 +11,7 @@ use Rattle.state_text.specs.declared.fault.StateFault.TheVariants as state
 use Rattle.saved_files.specs.declared.file_faults.RestoreFault.{RestoreFault}
 use Rattle.saved_files.specs.declared.file_faults.RestoreFault.TheVariants as restore
 use Rattle.state_text.specs.Reading.{reading}
-use Rattle.state_text.specs.Readers.{Fails}
+use Rattle.state_text.specs.Gives.{Fails}
 use Rattle.command_session.specs.declared.fault.CommandFault.{CommandFault}
 use Rattle.command_session.specs.FaultText.{whole_fault}
 use Rattle.state_commands.specs.StateFaults.{state_fault, restore_fault}

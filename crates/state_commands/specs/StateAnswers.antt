@@ -7,7 +7,7 @@ use Rattle.saved_session.specs.Parts.{State}
 use Rattle.saved_session.specs.SavedWatch.{watch_from}
 use Rattle.state_transfer.specs.Putting.{with_machine_of}
 use Rattle.state_text.specs.Reading.{reading}
-use Rattle.saved_files.specs.Restoring.{with_all}
+use Rattle.saved_files.specs.Putting.{with_all}
 use Rattle.saved_session.specs.Valid.{Valid}
 use Rattle.scp_parser.specs.Command.{Request, Restore}
 use Rattle.command_session.specs.Live.{CommandState}

@@ -22,8 +22,8 @@ use Rattle.state_transfer.specs.Listening.{wants_port}
 use Rattle.saved_session.specs.Parts.{State}
 use Rattle.state_transfer.specs.PutBack.{put_back}
 use Rattle.state_text.specs.Reading.{reading}
-use Rattle.saved_files.specs.Restoring.{FileRefusal, IsMissing, IsTooLong, HasChanged, CallFails, first_refused}
-use Rattle.saved_files.specs.Saving.{first_unsaved, files_flushed, copy_flushed}
+use Rattle.saved_files.specs.Putting.{FileRefusal, IsMissing, IsTooLong, HasChanged, CallFails, first_refused}
+use Rattle.saved_files.specs.Taking.{first_unsaved, files_flushed, copy_flushed}
 use Rattle.state_transfer.specs.Session.{saved}
 use Rattle.state_text.specs.Text.{text}
 use Rattle.command_session.specs.declared.next.Next.TheVariants.{Go}

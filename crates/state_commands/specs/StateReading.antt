@@ -63,9 +63,13 @@ failure_of file (Err unread.LengthFailed) = Some (record { file = Some file; cal
 failure_of file (Err unread.ReadFailed) = Some (record { file = Some file; call = Read })
 failure_of file read = None
 
+-- the words of memory that were read so far
+abbrev pub words_read : StateReader → Vec ℕ
+words_read reader = reader.reading.part.second.first.first.items
+
 -- The same answer as one of a file that is read whole. Of its bytes it says nothing: the words of memory stand for them.
 abbrev pub bytes_for : Result StateReader WholeFault → Result (Vec ℕ) WholeFault
-bytes_for (Ok reader) = Ok reader.saved.words
+bytes_for (Ok reader) = Ok (words_read reader)
 bytes_for (Err why) = Err why
 
 abbrev pub whole_of : StateRead → Whole

@@ -15,7 +15,7 @@ ghost use Rattle.nova_machine.specs.Seen.{attached_in};
 ghost use Rattle.state_transfer.specs.Listening.{AreClosed};
 ghost use Rattle.saved_session.specs.Parts.{state_in};
 ghost use Rattle.state_text.specs.Pieces.{IsFed};
-ghost use Rattle.state_text.specs.Readers.{Gives};
+ghost use Rattle.state_text.specs.Gives.{Gives};
 ghost use Rattle.state_text.specs.Reading.{reading};
 ghost use Rattle.state_transfer.specs.SavedValid.{AreStandard};
 ghost use Rattle.saved_session.specs.Valid.{Valid};

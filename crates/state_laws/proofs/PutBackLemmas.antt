@@ -28,9 +28,9 @@ use Rattle.nova_machine.specs.Seen.{Seen, unnumbered, erased, attached_in}
 use Rattle.nova_machine.specs.Valid.{CopyIsFile}
 use Rattle.saved_session.specs.Parts.{FilePart}
 use Rattle.saved_session.specs.Ranges.{kind_at}
-use Rattle.saved_files.specs.declared.saving.UnitPlace.{UnitPlace}
-use Rattle.saved_files.specs.Restoring.{attachment_of, with_all, copy_of}
-use Rattle.saved_files.specs.Saving.{unit_at, file_places, flag_of, saved_file, saved_at, saved_files}
+use Rattle.saved_files.specs.declared.taking.UnitPlace.{UnitPlace}
+use Rattle.saved_files.specs.Putting.{attachment_of, with_all, copy_of}
+use Rattle.saved_files.specs.Taking.{unit_at, file_places, flag_of, saved_file, saved_at, saved_files}
 use Rattle.state_transfer.specs.Session.{saved_unit, saved_event, saved_machine, port_number, saved_port, saved}
 use Rattle.saved_session.specs.SavedWatch.{saved_break, saved_expect, saved_send, saved_watch}
 use Rattle.state_transfer.specs.PutBack.{is_set, memory_from, unit_from, unit_named, event_from, held_from, machine_from, port_from, lines_from, put_back, IsIdleLine, CanBeSaved}
@@ -90,8 +90,8 @@ all-zero zero (x ∷ l) size h = absurd (omega (arith, size))
 all-zero (suc n) [] size h = absurd (omega (arith, size))
 all-zero (suc n) (x ∷ l) size h = λ i. h 0 i ∷ all-zero n l (omega (arith, size)) (λ k. h (suc k)) i
 
-memory-back : (m : MemoryState) → IsMemory m → IsSize m.size → memory_from (m.size / 1024) (take m.size m.words) ≡ m
-memory-back m is size =
+memory-back : (m : MemoryState) → IsMemory m → IsSize m.size → m.before ≡ false → memory_from false (m.size / 1024) (take m.size m.words) ≡ m
+memory-back m is size rule =
     let back = size-back m.size size in
     let whole = is.whole in
     let rest : drop m.size m.words ≡ replicate (2 ^ 15 - m.size) 0 =
@@ -100,7 +100,7 @@ memory-back m is size =
     let words : take m.size m.words ++ replicate (2 ^ 15 - 1024 * (m.size / 1024)) 0 ≡ m.words =
     ap (λ (n : ℕ). take m.size m.words ++ replicate (2 ^ 15 - n) 0) back
     ∙ ap (λ (l : List ℕ). take m.size m.words ++ l) (sym rest) ∙ take-append-drop m.size m.words in
-    λ i. record { words = words i; size = back i }
+    λ i. record { words = words i; size = back i; before = sym rule i }
 
 -- ---- files
 
@@ -216,7 +216,7 @@ machine-back : (s : Seen) → CanBeSaved s
 unfolding saved_machine machine_from
 machine-back s can =
     let m = s.machine in
-    let memory = memory-back m.processor.memory can.memory can.size in
+    let memory = memory-back m.processor.memory can.memory can.size can.rule in
     let twelve : length (attached_in m) ≡ file_units = length-map m.slots _ ∙ can.places in
     let attached = files-back s.files (attached_in m) twelve in
     let slots = ap (map held_from) attached ∙ numbers-back m.slots ∙ ap (λ (x : MachineState). x.slots) can.seen in

@@ -22,7 +22,7 @@ use Rattle.saved_session.specs.Parts.{FilePart, MachinePart}
 use Rattle.saved_session.specs.Ranges.{is_size, kind_at, standard_kinds, FilePlace, is_name_length}
 use Rattle.saved_session.specs.Valid.{AreWords, Follow, IsEvent, IsMachine, IsFile}
 use Rattle.saved_session.specs.Order.{with_event, behind_file}
-use Rattle.saved_files.specs.Restoring.{unit_of, attachment_of, with_file, with_all, copy_of}
+use Rattle.saved_files.specs.Putting.{unit_of, attachment_of, with_file, with_all, copy_of}
 use Rattle.state_transfer.specs.PutBack.{memory_from, unit_from, event_from, held_from, machine_from}
 use Rattle.nova_machine.proofs.Each.{every-set}
 use Rattle.state_transfer.proofs.PutBackMachineLemmas.{units-fit, units-standard, events-sound, among-ten}
@@ -57,7 +57,7 @@ zero-at (suc n) zero = refl
 zero-at (suc n) (suc k) = zero-at n k
 
 memory-is : (k : ℕ) (words : List ℕ) → is_size k ≡ true → length words ≡ 1024 * k → AreWords words
-    → IsMemory (memory_from k words)
+    → IsMemory (memory_from false k words)
 memory-is k words is size are =
     let most = (size-from k is).most in
     let rest : List ℕ = replicate (2 ^ 15 - 1024 * k) 0 in
@@ -146,6 +146,7 @@ unfolding machine_from
 machine-in-range m attached files is places names bytes = record {
   memory = memory-is m.cpu.size_k m.words is.cpu.size_k is.size is.words;
   size = size-from m.cpu.size_k is.cpu.size_k;
+  rule = refl;
   cpu = record { four = is.cpu.few; words = is.cpu.acs; pc = ltb-true m.cpu.pc 32768 is.cpu.pc };
   mask = is.cpu.mask;
   switches = is.cpu.sr;

@@ -12,7 +12,7 @@ use Rattle.nova_machine.specs.Seen.{Seen}
 use Rattle.nova_machine.specs.Valid.{IsPort, ValidLine, Valid as ValidSeen, CopyIsFile, DiskIsItsFile}
 use Rattle.saved_session.specs.Parts.{State}
 use Rattle.saved_session.specs.Valid.{Valid}
-use Rattle.saved_files.specs.Restoring.{with_all, copy_of}
+use Rattle.saved_files.specs.Putting.{with_all, copy_of}
 use Rattle.state_transfer.specs.PutBack.{machine_from, port_from, lines_from, put_back}
 use Rattle.state_transfer.specs.SavedValid.{AreStandard}
 use Rattle.state_laws.specs.PutBackValid.{PutBackIsValid}

@@ -16,8 +16,8 @@ use Rattle.saved_session.specs.Ranges.{kind_at, FilePlace, takes_file_at, is_nex
 use Rattle.state_text.specs.Laws.{FileHasWidths}
 use Rattle.saved_session.specs.Valid.{AreBytes, Follow, IsFile, AreFiles}
 use Rattle.saved_session.specs.Order.{place_of as file_place, behind_file}
-use Rattle.saved_files.specs.declared.saving.UnitPlace.{UnitPlace}
-use Rattle.saved_files.specs.Saving.{unit_at, file_places, flag_of, saved_file, saved_at, saved_files}
+use Rattle.saved_files.specs.declared.taking.UnitPlace.{UnitPlace}
+use Rattle.saved_files.specs.Taking.{unit_at, file_places, flag_of, saved_file, saved_at, saved_files}
 use Rattle.state_transfer.specs.SavedValid.{IsTaken, AreTaken}
 
 -- ---- digests

@@ -12,6 +12,7 @@ use Rattle.unit_trait.specs.Kinds.{all_kinds, units_of, code_of, same_unit}
 use Rattle.unit_trait.specs.Registers.{Register, registers, register_at}
 use Rattle.unit_trait.specs.Calls.{UnitState}
 use Rattle.unit_trait.specs.Row.{InRange}
+use Rattle.unit_trait.specs.Multiplexer.{line_numbers}
 use Rattle.unit_trait.proofs.EveryKind.{every-kind}
 use Rattle.unit_list.specs.Bus.{AllFit, kinds_of}
 use Rattle.event_queue.specs.EventList.{Event, waiting, Sound}
@@ -26,7 +27,7 @@ use Rattle.saved_session.specs.declared.saved.SavedEvent.{SavedEvent}
 use Rattle.saved_session.specs.Ranges.{is_flag, is_size, is_address, kind_at, standard_kinds, is_position, register_count, within_limits, holds_value, most_events, is_event_of, is_later}
 use Rattle.saved_session.specs.Valid.{AreWords, Follow, IsCpu, CanHold, IsUnit, IsEvent, IsMachine}
 use Rattle.saved_session.specs.Order.{next_number, with_event}
-use Rattle.saved_files.specs.Saving.{flag_of}
+use Rattle.saved_files.specs.Taking.{flag_of}
 use Rattle.state_transfer.specs.Session.{saved_cpu, saved_unit, saved_event, saved_machine}
 use Rattle.state_transfer.specs.SavedValid.{AreStandard}
 use Rattle.state_transfer.proofs.TakenSizes.{size-back, as-many, sound-behind, few-events}
@@ -89,7 +90,7 @@ are_narrow [] = true
 are_narrow (r ∷ rs) = nat_lt r.largest (2 ^ 32) && are_narrow rs
 
 registers-narrow : (kind : Kind) → are_narrow (registers kind) ≡ true
-unfolding are_narrow
+unfolding are_narrow line_numbers
 registers-narrow kind =
     every-kind (λ (k : Kind). are_narrow (registers k) ≡ true)
     (refl, refl, refl, refl, refl, refl, refl, refl, refl, refl, refl) kind

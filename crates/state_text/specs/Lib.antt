@@ -1,7 +1,7 @@
+pub mod Faults
+pub mod Rows
 pub mod Text
 pub mod Reading
-pub mod Readers
-pub mod Held
+pub mod Gives
 pub mod Pieces
-pub mod Steps
 pub mod Laws

@@ -1,6 +1,8 @@
 ghost use Rattle.std.specs.Prelude.{◌≡◌};
 ghost use Rattle.state_text.specs.declared.fault.StateFault.TheVariants as faults;
+ghost use Rattle.state_text.specs.Faults.{state_fault};
 
+use byte_layouts::FieldFault;
 use std::alloc::{AllocError, AllocFailed};
 use thiserror::Error;
 
@@ -40,5 +42,19 @@ impl<T: Drop> From<AllocFailed<T>> for StateFault {
 
     fn from(_e: AllocFailed<T>) -> StateFault {
         StateFault::OutOfMemory
+    }
+}
+
+impl From<FieldFault> for StateFault {
+    ghost from_gives = { λ f e. e ≡ state_fault f };
+
+    fn from(fault: FieldFault) -> StateFault {
+        match fault {
+            FieldFault::NotHead => StateFault::NotState,
+            FieldFault::Version(n) => StateFault::Version(n),
+            FieldFault::BadField(place) => StateFault::BadField(place),
+            FieldFault::Truncated => StateFault::Truncated,
+            FieldFault::OutOfMemory => StateFault::OutOfMemory,
+        }
     }
 }

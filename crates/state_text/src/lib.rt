@@ -1,16 +1,13 @@
 //! A saved session as the bytes of a state file: written, and read with the one fault of bytes that are none.
 #![tactic(auto)]
 
-mod cursor;
 pub mod fault;
-mod file_fields;
+mod file_formats;
 pub mod laws;
-mod machine_fields;
-mod pending;
+mod machine_formats;
 pub mod reading;
 mod state_reader;
-mod trying;
-mod watch_fields;
+mod watch_formats;
 mod writing;
 
 pub use fault::StateFault;

@@ -7,8 +7,8 @@ use Rattle.saved_files.specs.declared.file_faults.RestoreFault.{RestoreFault}
 use Rattle.saved_files.specs.declared.file_faults.RestoreFault.TheVariants as fault
 use Rattle.state_transfer.specs.Listening.{IsHeardOn, IsPortFault, LeavesLines, wants_port}
 use Rattle.saved_session.specs.Parts.{FilePart}
-use Rattle.saved_files.specs.RestoreCauses.{count_behind, openings_named, IsCompared, OpeningsStand, SessionCause}
-use Rattle.saved_files.specs.Restoring.{IsOfThese, IsOfSession}
+use Rattle.saved_files.specs.PuttingCauses.{count_behind, openings_named, IsCompared, OpeningsStand, SessionCause}
+use Rattle.saved_files.specs.Putting.{IsOfThese, IsOfSession}
 
 -- ---- behind the files
 

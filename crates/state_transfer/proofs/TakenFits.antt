@@ -11,7 +11,7 @@ use Rattle.nova_machine.specs.Machine.{MachineState}
 use Rattle.saved_session.specs.Parts.{FilePart}
 use Rattle.saved_session.specs.Ranges.{standard_kinds, register_count, most_events}
 use Rattle.saved_session.specs.Valid.{UnitsFit, FilesFit, MachineFits}
-use Rattle.saved_files.specs.SavingOne.{AreNamed}
+use Rattle.saved_files.specs.TakingOne.{AreNamed}
 use Rattle.state_transfer.specs.Session.{saved_unit, saved_event, saved_machine}
 use Rattle.state_transfer.specs.SavedValid.{AreStandard}
 use Rattle.saved_session.proofs.RegisterCounts.{few_registers}

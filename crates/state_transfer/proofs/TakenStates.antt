@@ -11,7 +11,7 @@ use Rattle.nova_machine.specs.Machine.{MachineState, with_attached_files}
 use Rattle.nova_machine.specs.Seen.{erased, seen, beside, attached_in}
 use Rattle.nova_machine.proofs.Serving.{erased-attached}
 use Rattle.saved_session.specs.Parts.{State}
-use Rattle.saved_files.specs.Saving.{file_places, saved_files}
+use Rattle.saved_files.specs.Taking.{file_places, saved_files}
 use Rattle.state_transfer.specs.Session.{saved_machine, saved_port, saved}
 use Rattle.saved_session.specs.SavedWatch.{saved_watch}
 

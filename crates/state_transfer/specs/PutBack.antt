@@ -21,7 +21,7 @@ use Rattle.saved_session.specs.declared.saved.SavedEvent.{SavedEvent}
 use Rattle.saved_session.specs.Parts.{UnitPart, MachinePart, State}
 use Rattle.saved_session.specs.Ranges.{kind_at}
 use Rattle.saved_session.specs.SavedWatch.{watch_from}
-use Rattle.saved_files.specs.Restoring.{with_all, copy_of}
+use Rattle.saved_files.specs.Putting.{with_all, copy_of}
 
 -- ---- the machine
 
@@ -34,9 +34,13 @@ cpu_from c = record { accumulators = c.acs; carry = is_set c.carry; pc = c.pc }
 abbrev pub interrupts_from : SavedCpu → Ints
 interrupts_from c = record { mask = c.mask; on = is_set c.on; hold = is_set c.hold }
 
--- so many K of words, and 0 past them
-abbrev pub memory_from : ℕ → List ℕ → MemoryState
-memory_from k words = record { words = words ++ replicate (2 ^ 15 - 1024 * k) 0; size = 1024 * k }
+-- so many K of words, and 0 past them, and that rule of the auto-index locations
+abbrev pub memory_from : Bool → ℕ → List ℕ → MemoryState
+memory_from before k words = record {
+  words = words ++ replicate (2 ^ 15 - 1024 * k) 0;
+  size = 1024 * k;
+  before = before;
+}
 
 abbrev pub unit_from : UnitPart → UnitState
 unit_from u = record { kind = kind_at u.position; registers = u.registers }
@@ -53,10 +57,11 @@ event_from e = record { unit = unit_named e.position e.unit; remaining = e.remai
 abbrev pub held_from : Option Attachment → Option Held
 held_from a = option_map (λ (b : Attachment). record { file = 0; attachment = b }) a
 
--- a machine to whose units that is attached, without its lines, and with nothing kept beside the disk's copy
+-- A machine to whose units that is attached, without its lines, and with nothing kept beside the disk's copy. A state file
+-- does not name the rule of the auto-index locations: bit 0 of the changed word is tested.
 unfoldable pub machine_from : MachinePart → List (Option Attachment) → List NamedBytes → MachineState
 machine_from m attached files = record {
-  processor = record { cpu = cpu_from m.cpu; memory = memory_from m.cpu.size_k m.words };
+  processor = record { cpu = cpu_from m.cpu; memory = memory_from false m.cpu.size_k m.words };
   ints = interrupts_from m.cpu;
   sr = m.cpu.sr;
   stop_dev = is_set m.cpu.stop_dev;
@@ -99,13 +104,15 @@ pub record IsIdleLine (line : LineOf Peer) : Type 0 where
   pub nobody : line ≡ unconnected line.port
   pub port : line.port ≢ Some 0
 
--- The memory is one, of a size that a machine may have, and each unit that takes files has its place. The machine is
+-- The memory is one, of a size that a machine may have, and indirect references test bit 0 of the changed word, as no state
+-- file says otherwise; and each unit that takes files has its place. The machine is
 -- without numbers of files, with nothing kept beside the disk's copy and without its lines, as it is seen. The disk's copy is
 -- that of its file, and nothing is to be written back. The actions of the stop that came last are forgotten. There is one line,
 -- with nobody on it.
 pub record CanBeSaved (s : Seen) : Type 0 where
   pub memory : IsMemory s.machine.processor.memory
   pub size : IsSize s.machine.processor.memory.size
+  pub rule : s.machine.processor.memory.before ≡ false
   pub places : length s.machine.slots ≡ file_units
   pub seen : erased s.machine ≡ s.machine
   pub copy : DiskIsItsFile s

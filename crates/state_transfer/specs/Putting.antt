@@ -1,5 +1,5 @@
 -- A machine with a part of a saved one in it, and all else as it was.
-use Rattle.std.specs.Prelude.{◌≡◌, List, Option, map}
+use Rattle.std.specs.Prelude.{false, ◌≡◌, List, Option, map}
 use Rattle.host_lines.specs.Traffic.{Answer}
 use Rattle.host_lines.specs.Told.{ahead_of}
 use Rattle.nova_machine.specs.Seen.{Beside, seen}
@@ -14,7 +14,7 @@ use Rattle.saved_session.specs.declared.saved.SavedCpu.{SavedCpu}
 use Rattle.state_transfer.specs.Listening.{AreClosed}
 use Rattle.saved_session.specs.Parts.{MachinePart, State}
 use Rattle.state_transfer.specs.PutBack.{is_set, cpu_from, interrupts_from, memory_from, unit_from, event_from, machine_from, put_back}
-use Rattle.saved_files.specs.Restoring.{copy_of}
+use Rattle.saved_files.specs.Putting.{copy_of}
 
 -- the registers that instructions change
 abbrev pub with_registers_of : MachineState → SavedCpu → MachineState
@@ -35,7 +35,7 @@ with_cpu_of m c = record (with_switches_of (with_interrupts_of (with_registers_o
 
 -- all but its files and its lines
 abbrev pub with_machine_of : MachineState → MachinePart → MachineState
-with_machine_of m p = record (with_memory (with_cpu_of m p.cpu) (memory_from p.cpu.size_k p.words)) {
+with_machine_of m p = record (with_memory (with_cpu_of m p.cpu) (memory_from false p.cpu.size_k p.words)) {
   units = map unit_from p.units;
   events = map event_from p.agenda;
 }

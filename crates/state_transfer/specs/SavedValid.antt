@@ -18,8 +18,8 @@ use Rattle.nova_machine.specs.Seen.{Seen, attached_in}
 use Rattle.nova_machine.specs.Valid.{Valid as ValidSeen}
 use Rattle.saved_session.specs.Ranges.{standard_kinds, is_text_length}
 use Rattle.saved_session.specs.Valid.{AreBytes, AreActions}
-use Rattle.saved_files.specs.declared.saving.UnitPlace.{UnitPlace}
-use Rattle.saved_files.specs.Saving.{unit_at, file_places}
+use Rattle.saved_files.specs.declared.taking.UnitPlace.{UnitPlace}
+use Rattle.saved_files.specs.Taking.{unit_at, file_places}
 
 -- the units are those of a standard machine, in bus order
 abbrev pub AreStandard : List UnitState → Type 0

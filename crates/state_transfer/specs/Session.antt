@@ -12,7 +12,7 @@ use Rattle.saved_session.specs.declared.saved.SavedCpu.{SavedCpu}
 use Rattle.saved_session.specs.declared.saved.SavedEvent.{SavedEvent}
 use Rattle.saved_session.specs.Parts.{UnitPart, MachinePart, State}
 use Rattle.saved_session.specs.SavedWatch.{saved_watch}
-use Rattle.saved_files.specs.Saving.{flag_of, file_places, saved_files}
+use Rattle.saved_files.specs.Taking.{flag_of, file_places, saved_files}
 
 -- ---- the machine
 

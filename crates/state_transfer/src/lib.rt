@@ -2,9 +2,9 @@
 #![tactic(auto)]
 
 mod putting;
-pub mod setting;
+pub mod putting_state;
 pub mod taking;
 mod taking_machine;
 
-pub use setting::set_state;
+pub use putting_state::set_state;
 pub use taking::take_state;

@@ -1,5 +1,5 @@
 // What was saved of a machine is put into it: its processor, words, units and events.
-ghost use Rattle.std.specs.Prelude.{◌≡◌, ◌*◌, ◌<◌, ℕ, List, [], IsTrue, length, map, is_some};
+ghost use Rattle.std.specs.Prelude.{◌≡◌, ◌*◌, ◌<◌, ℕ, false, List, [], IsTrue, length, map, is_some};
 ghost use Rattle.unit_trait.specs.Kinds.{code_of, units_of};
 ghost use Rattle.unit_trait.specs.Processor.{CanHold};
 ghost use Rattle.unit_trait.specs.Registers.{registers};
@@ -83,13 +83,15 @@ pub fn put_cpu<U: Unit>(machine: &mut Machine<U>, cpu: &SavedCpu)
     machine.set_clock(cpu.time, cpu.keys_taken);
 }
 
-/// The words of memory, and with them its size.
+/// The words of memory, and with them its size. A state file does not name the rule of the auto-index locations, so
+/// bit 0 of the changed word is tested.
 pub fn put_memory<U: Unit>(machine: &mut Machine<U>, words: &[u16])
     requires { IsSize (length words.now) }
     ensures { (k : ℕ) → length words.now ≡ 1024 * k
-        → machine.new ≡ with_memory machine.old (memory_from k words.now) }
+        → machine.new ≡ with_memory machine.old (memory_from false k words.now) }
 {
     machine.memory_mut().set_words(words);
+    machine.memory_mut().set_autobit(false);
 }
 
 // The registers of a unit.

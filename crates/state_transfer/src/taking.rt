@@ -9,7 +9,7 @@ ghost use Rattle.unit_files.specs.InStep.{InStep, marks_flushed};
 ghost use Rattle.nova_machine.specs.Machine.{attached_files};
 ghost use Rattle.nova_machine.specs.Seen.{beside, seen, attached_in};
 ghost use Rattle.saved_session.specs.Parts.{state_in};
-ghost use Rattle.saved_files.specs.Saving.{first_unsaved, disk_flushed, files_flushed, copy_flushed, save_claim, UnlessNoMemory, IfNoMemory, SaveCause};
+ghost use Rattle.saved_files.specs.Taking.{first_unsaved, disk_flushed, files_flushed, copy_flushed, save_claim, UnlessNoMemory, IfNoMemory, SaveCause};
 ghost use Rattle.state_transfer.specs.SavedValid.{AreStandard};
 ghost use Rattle.saved_session.specs.Valid.{Fits};
 ghost use Rattle.state_transfer.specs.Session.{saved, saved_machine, saved_port};

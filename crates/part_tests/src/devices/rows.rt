@@ -36,7 +36,7 @@ pub fn plays<U: Unit>(rt: &impl Abort, unit: &mut U, row: &str) {
 
 /// Whether the registers take these values, from number 0 on.
 fn takes<U: Unit>(unit: &mut U, values: &str) -> bool {
-    for (i, word) in (0..17u8).zip(values.split_whitespace()) {
+    for (i, word) in (0..131u8).zip(values.split_whitespace()) {
         if !is_set(unit, i, word) {
             return false;
         }
@@ -53,7 +53,7 @@ fn is_set<U: Unit>(unit: &mut U, i: u8, word: &str) -> bool {
 
 /// Whether the registers hold these values, from that number on.
 fn hold<U: Unit>(unit: &U, first: u8, values: &str) -> bool {
-    for (i, word) in (first..17).zip(values.split_whitespace()) {
+    for (i, word) in (first..131).zip(values.split_whitespace()) {
         if number(word) != Some(unit.reg(i)) {
             return false;
         }
@@ -75,7 +75,7 @@ fn answers<U: Unit>(unit: &mut U, call: &str, answer: &str) -> bool {
         "got" => gets(unit, operands, answer),
         "reset" => Some(unit.reset()) == queue(answer),
         "set" => sets(unit, operands, answer),
-        "from" => hold(unit, byte(operands).unwrap_or(17), answer),
+        "from" => hold(unit, byte(operands).unwrap_or(131), answer),
         "kind" => unit.kind().name() == answer,
         _ => says(unit, name, operands, answer),
     }

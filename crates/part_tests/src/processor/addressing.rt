@@ -87,14 +87,53 @@ fn changes(memory: &mut Memory, line: &str) -> bool {
     }
 }
 
+/// The same where bit 0 of the word is tested before its change.
+const TESTED_BEFORE: &str = "17 1234 1234 1234
+20 1234 1235 1235
+37 1234 1233 1233
+40 1234 1234 1234
+20 77777 0 100000 | the word that was read has bit 0 clear, and the changed one set
+20 177777 123 0 | and the other way round: 0 is passed
+27 100000 66 100001
+30 0 77777 177777
+30 100000 55 77777";
+
+/// A memory with words at 0, 1 and 77777, by that rule.
+fn by_rule(memory: &mut Memory, before: bool) {
+    memory.write(at(0), Word(0o123));
+    memory.write(at(1), Word(0o66));
+    memory.write(at(0o77777), Word(0o55));
+    memory.set_autobit(before);
+}
+
 #[test]
 fn auto_index_locations(rt: HostRuntime) -> Result<(), Fail> {
     let mut memory = Memory::new(rt.alloc())?;
-    memory.write(at(0), Word(0o123));
-    memory.write(at(0o77777), Word(0o55));
+    by_rule(&mut memory, false);
     for line in AUTO_INDEX.lines() {
         holds(&rt, changes(&mut memory, line), line);
     }
+    Ok(())
+}
+
+#[test]
+fn auto_index_locations_tested_before_the_change(rt: HostRuntime) -> Result<(), Fail> {
+    let mut memory = Memory::new(rt.alloc())?;
+    by_rule(&mut memory, true);
+    for line in TESTED_BEFORE.lines() {
+        holds(&rt, changes(&mut memory, line), line);
+    }
+    Ok(())
+}
+
+#[test]
+fn a_new_memory_tests_the_changed_word(rt: HostRuntime) -> Result<(), Fail> {
+    let mut memory = Memory::new(rt.alloc())?;
+    holds(&rt, !memory.autobit(), "a new memory");
+    memory.set_autobit(true);
+    holds(&rt, memory.autobit(), "a rule that was set");
+    memory.set_size(4096);
+    holds(&rt, memory.autobit(), "behind another size");
     Ok(())
 }
 
@@ -147,6 +186,27 @@ fn every_level_of_a_chain_changes_its_word(rt: HostRuntime) -> Result<(), Fail> 
     Ok(())
 }
 
+/// The same where bit 0 is tested before the change. 0 leads to 444.
+const CHAINS_TESTED_BEFORE: &str = "50 100020 20 1000 | 100020 1001 | 1001
+20 100017 21 0 | 100021 1 | 1
+20 77777 21 0 | 100000 0 | 0
+20 100026 27 177777 | 100027 0 | 444
+37 100031 30 0 | 100030 177777 | 77777
+30 100000 77777 1234 | 77777 1234 | 1234
+20 100077 21 0 | 100100 0 | no end";
+
+#[test]
+fn every_level_of_a_chain_is_tested_before_its_change(rt: HostRuntime) -> Result<(), Fail> {
+    let mut memory = Memory::new(rt.alloc())?;
+    memory.write(at(0), Word(0o444));
+    memory.write(at(0o100), Word(0o100100));
+    memory.set_autobit(true);
+    for line in CHAINS_TESTED_BEFORE.lines() {
+        holds(&rt, leads(&mut memory, line), line);
+    }
+    Ok(())
+}
+
 /// How many levels a chain has, and whether it comes to an end.
 const LEVELS: [(u16, bool); 4] = [(1, true), (15, true), (16, true), (17, false)];
 
@@ -175,6 +235,46 @@ fn a_chain_has_up_to_16_levels(rt: HostRuntime) -> Result<(), Fail> {
     let mut memory = Memory::new(rt.alloc())?;
     for row in LEVELS.iter() {
         holds(&rt, is_followed(&mut memory, row.0, row.1), "a chain");
+    }
+    Ok(())
+}
+
+/// The rule, the word at 20, and whether a chain ends whose 16th level is 20.
+const LAST_LEVELS: [(bool, u16, bool); 4] = [
+    (false, 0o177777, true),
+    (false, 0o77777, false),
+    (true, 0o177777, false),
+    (true, 0o77777, true),
+];
+
+/// Puts a chain of 15 levels into a memory, from 1000 on, which goes on through 20.
+fn put_chain_to_auto_index(memory: &mut Memory, word: u16) {
+    put_chain(memory, 15);
+    memory.write(at(0o1016), Word(0o100020));
+    memory.write(at(0o20), Word(word));
+}
+
+fn is_last_level(memory: &mut Memory, before: bool, word: u16, ends: bool) -> bool {
+    put_chain_to_auto_index(memory, word);
+    memory.set_autobit(before);
+    let acs = [Word(0), Word(0), Word(0o1000), Word(0)];
+    let got = memory.address(Word(0o3000), at(0), acs);
+    if ends {
+        got == Ok(at(0))
+    } else {
+        got == Err(ChainLimit)
+    }
+}
+
+#[test]
+fn the_16th_tested_word_ends_a_chain(rt: HostRuntime) -> Result<(), Fail> {
+    let mut memory = Memory::new(rt.alloc())?;
+    for row in LAST_LEVELS.iter() {
+        holds(
+            &rt,
+            is_last_level(&mut memory, row.0, row.1, row.2),
+            "a 16th level",
+        );
     }
     Ok(())
 }

@@ -43,6 +43,16 @@ fn follows(processor: &mut Processor) -> bool {
     end == Ok(at(0o300)) && processor.memory.read(at(0)) == Word(0o117)
 }
 
+/// JMP @1 through 20, whose word 77777 becomes 100000. Where the changed word is tested, 0 is passed too, where PC is.
+fn follows_through_20(processor: &mut Processor, before: bool) -> bool {
+    processor.memory.write(at(1), Word(0o100020));
+    processor.memory.write(at(0o20), Word(0o77777));
+    processor.memory.set_autobit(before);
+    let end = processor.follow_interrupt(Word(0o2001));
+    let wanted = if before { at(0) } else { at(0o117) };
+    end == Ok(wanted) && processor.memory.read(at(0o20)) == Word(0o100000)
+}
+
 /// JMP @1 through a word that names itself.
 fn has_no_end(processor: &mut Processor) -> bool {
     processor.memory.write(at(1), Word(0o100001));
@@ -57,6 +67,16 @@ fn each_call_goes_on_behind_its_word(rt: HostRuntime) -> Result<(), Fail> {
     holds(&rt, skips(&mut processor), "skips");
     holds(&rt, executes(&mut processor), "other words");
     holds(&rt, follows(&mut processor), "an interrupt");
+    holds(
+        &rt,
+        follows_through_20(&mut processor, true),
+        "bit 0 tested before the change",
+    );
+    holds(
+        &rt,
+        follows_through_20(&mut processor, false),
+        "bit 0 tested behind it",
+    );
     holds(&rt, has_no_end(&mut processor), "a chain without an end");
     Ok(())
 }

@@ -21,7 +21,15 @@ const NAMES: [(Kind, &[u8]); 11] = [
     (Kind::Tto, b"BUSY DONE TIME BUF "),
     (Kind::Tti1, b"BUSY DONE TIME BUF "),
     (Kind::Tto1, b"BUSY DONE TIME BUF "),
-    (Kind::Qty, b""),
+    (
+        Kind::Qty,
+        b"BUSY DONE TIME RX0 RX1 RX2 RX3 RX4 RX5 RX6 RX7 RX8 RX9 RX10 RX11 RX12 RX13 RX14 RX15 RX16 RX17 RX18 RX19 RX20 \
+        RX21 RX22 RX23 RX24 RX25 RX26 RX27 RX28 RX29 RX30 RX31 RX32 RX33 RX34 RX35 RX36 RX37 RX38 RX39 RX40 RX41 RX42 \
+        RX43 RX44 RX45 RX46 RX47 RX48 RX49 RX50 RX51 RX52 RX53 RX54 RX55 RX56 RX57 RX58 RX59 RX60 RX61 RX62 RX63 TX0 \
+        TX1 TX2 TX3 TX4 TX5 TX6 TX7 TX8 TX9 TX10 TX11 TX12 TX13 TX14 TX15 TX16 TX17 TX18 TX19 TX20 TX21 TX22 TX23 \
+        TX24 TX25 TX26 TX27 TX28 TX29 TX30 TX31 TX32 TX33 TX34 TX35 TX36 TX37 TX38 TX39 TX40 TX41 TX42 TX43 TX44 TX45 \
+        TX46 TX47 TX48 TX49 TX50 TX51 TX52 TX53 TX54 TX55 TX56 TX57 TX58 TX59 TX60 TX61 TX62 TX63 ",
+    ),
 ];
 
 /// What is left of such a text behind the name of a register; none where another name stands there.
@@ -40,7 +48,7 @@ fn behind_name(kind: Kind, i: u8, text: &'static [u8]) -> Option<&'static [u8]> 
 /// Whether these are the names of the kind's registers, in their order.
 fn are_names(kind: Kind, names: &'static [u8]) -> bool {
     let mut rest = names;
-    for i in 0..20u8 {
+    for i in 0..140u8 {
         match behind_name(kind, i, rest) {
             Some(behind) => rest = behind,
             None => return false,
@@ -57,7 +65,7 @@ fn registers_stand_in_their_order(rt: HostRuntime) {
 }
 
 /// A register, its least and its largest value, the first one, and whether a reset clears it.
-const REGISTERS: [(Kind, u8, u32, u32, u32, bool); 12] = [
+const REGISTERS: [(Kind, u8, u32, u32, u32, bool); 16] = [
     (Kind::Dsk, 1, 0, 1, 0, true),
     (Kind::Dsk, 2, 0, 1, 0, false),
     (Kind::Dsk, 3, 1, 65535, 200, false),
@@ -70,6 +78,10 @@ const REGISTERS: [(Kind, u8, u32, u32, u32, bool); 12] = [
     (Kind::Ptr, 5, 0, 16777216, 0, false),
     (Kind::Clk, 2, 0, 3, 0, true),
     (Kind::Tto1, 2, 1, 65535, 100, false),
+    (Kind::Qty, 1, 0, 1, 0, true),
+    (Kind::Qty, 2, 1, 65535, 100, false),
+    (Kind::Qty, 66, 0, 511, 0, true),
+    (Kind::Qty, 67, 0, 1023, 0, true),
 ];
 
 fn is_register(row: &(Kind, u8, u32, u32, u32, bool)) -> bool {
@@ -87,7 +99,9 @@ fn registers_have_their_limits_and_what_they_hold_at_first(rt: HostRuntime) {
     for row in REGISTERS.iter() {
         of_one(&rt, is_register(row), row.0, row.1);
     }
-    let none = is_no_register(Kind::Dsk, 8) && is_no_register(Kind::Mta, 17);
+    let none = is_no_register(Kind::Dsk, 8)
+        && is_no_register(Kind::Mta, 17)
+        && is_no_register(Kind::Qty, 131);
     holds(&rt, none, "a register past the last");
 }
 

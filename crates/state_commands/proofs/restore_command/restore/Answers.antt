@@ -18,7 +18,7 @@ use Rattle.state_transfer.specs.Putting.{with_machine_of}
 use Rattle.telnet_lines.specs.Line.{LineOf}
 use Rattle.state_transfer.specs.PutBack.{put_back}
 use Rattle.unit_trait.specs.declared.kind.UnitName.{UnitName}
-use Rattle.saved_files.specs.Restoring.{FileRefusal, claim_in, first_refused, SaysFirst}
+use Rattle.saved_files.specs.Putting.{FileRefusal, claim_in, first_refused, SaysFirst}
 use Rattle.command_session.specs.declared.next.Next.TheVariants.{Go}
 use Rattle.command_session.specs.declared.fault.CommandFault.TheVariants.{AlreadyAttached}
 use Rattle.command_session.specs.declared.fault.CommandFault.{CommandFault}
@@ -30,7 +30,7 @@ use Rattle.file_traits.specs.State.{FileState}
 use Rattle.state_commands.specs.StateFaults.{state_fault}
 use Rattle.command_session.specs.WholeCalls.{read_notes, whole_answer}
 use Rattle.state_text.specs.declared.state_reader.StateReader.{StateReader}
-use Rattle.state_commands.specs.StateReading.{WasFed, bytes_for, whole_of}
+use Rattle.state_commands.specs.StateReading.{WasFed, words_read, bytes_for, whole_of}
 use Rattle.state_commands.proofs.StateReadingLemmas.{says_unread, says_read, fed_with}
 use Rattle.command_session.proofs.BehindLemmas.{stamp_in}
 use Rattle.command_session.proofs.DidLemmas.{refused-did}
@@ -154,7 +154,7 @@ returns-in-Err-saved_in-clause-undone g c = λ out is.
       notes = (
         read_notes subject.State (record { command = s.command; time = s.machine.time }) w,
         c.note_state_reading.ensures.notes ∙ ap (λ (t : Stamp). s.notes.items ++ read_notes subject.State t w) stamped,
-        read-shut-notes s.command s.machine.time w c.in-Ok.reader.saved.words (ap bytes_for c.in-Ok.ensures.reader) read.shape,
+        read-shut-notes s.command s.machine.time w (words_read c.in-Ok.reader) (ap bytes_for c.in-Ok.ensures.reader) read.shape,
       );
       written = refl;
       lines = refl;
@@ -215,7 +215,7 @@ returns-in-Ok-set_state-clause-keeps g c =
     let read = c.read_state_file-read.ensures in
     let stamped = c.stamp_of-stamp.ensures ∙ ap stamp_in (sym c.session.view_is) in
     rw (← c.session.view_is)
-    (done-restore-keeps s.command s.machine.time c.set_state.new.machine.time g.F.Files.tells w c.in-Ok.reader.saved.words (ap bytes_for c.in-Ok.ensures.reader) read.shape (g.F.Files.state c.args.files.now)
+    (done-restore-keeps s.command s.machine.time c.set_state.new.machine.time g.F.Files.tells w (words_read c.in-Ok.reader) (ap bytes_for c.in-Ok.ensures.reader) read.shape (g.F.Files.state c.args.files.now)
     (g.F.Files.state c.read_state_file-read.new.files) (g.F.Files.state c.set_state.new.files) (record { counts = read.counts; openings = read.openings; ids = read.ids; one = read.one })
     (state_in c.in-Ok-saved_in.saved).files (few-files (state_in c.in-Ok-saved_in.saved).files c.in-Ok-saved_in.ensures.valid.files) c.in-Ok-set_state.ensures.counts
     (g.met.F.Files.unused c.read_state_file-read.new.files) (g.met.F.Files.unused c.set_state.new.files) s.notes.items c.note_state_reading.new.notes.items c.in-Ok-set_state.ensures.cause.0 c.in-Ok-set_state.ensures.exact
@@ -316,7 +316,7 @@ returns-clause-undone g c = λ out is.
         read_notes subject.State (record { command = s.command; time = s.machine.time }) w,
         c.note_restoring.ensures.notes ∙ ap (λ (l : List FaultNote). c.note_state_reading.new.notes.items ++ l) none ∙ append-nil _
             ∙ c.note_state_reading.ensures.notes ∙ ap (λ (t : Stamp). s.notes.items ++ read_notes subject.State t w) stamped,
-        read-shut-notes s.command s.machine.time w c.in-Ok.reader.saved.words (ap bytes_for c.in-Ok.ensures.reader) read.shape,
+        read-shut-notes s.command s.machine.time w (words_read c.in-Ok.reader) (ap bytes_for c.in-Ok.ensures.reader) read.shape,
       );
       written = refl;
       lines = ap (λ (m : MachineState). m.lines) set.refused;
@@ -336,7 +336,7 @@ returns-clause-keeps g c =
     let set = c.in-Err-set_state.ensures in
     let stamped = c.stamp_of-stamp.ensures ∙ ap stamp_in (sym c.session.view_is) in
     rw (← c.session.view_is)
-    (refused-restore-keeps s.command s.machine.time c.set_state.new.machine.time g.F.Files.tells w c.in-Ok.reader.saved.words (ap bytes_for c.in-Ok.ensures.reader) read.shape (g.F.Files.state c.args.files.now)
+    (refused-restore-keeps s.command s.machine.time c.set_state.new.machine.time g.F.Files.tells w (words_read c.in-Ok.reader) (ap bytes_for c.in-Ok.ensures.reader) read.shape (g.F.Files.state c.args.files.now)
     (g.F.Files.state c.read_state_file-read.new.files) (g.F.Files.state c.set_state.new.files) (record { counts = read.counts; openings = read.openings; ids = read.ids; one = read.one })
     (state_in c.in-Ok-saved_in.saved).files (few-files (state_in c.in-Ok-saved_in.saved).files c.in-Ok-saved_in.ensures.valid.files) set.counts
     (g.met.F.Files.unused c.read_state_file-read.new.files) (g.met.F.Files.unused c.set_state.new.files) c.in-Err-set_state.fault (Err c.fault_of_restore.result) s.notes.items c.note_restoring.new.notes.items set.cause set.once set.exact (ap Err c.fault_of_restore.ensures)

@@ -8,7 +8,7 @@ use Rattle.nova_machine.specs.Machine.{MachineState}
 use Rattle.nova_machine.specs.Seen.{seen, beside}
 use Rattle.saved_session.specs.declared.saved.Saved.{Saved}
 use Rattle.saved_session.specs.Parts.{state_in}
-use Rattle.saved_files.specs.Saving.{first_unsaved, save_claim}
+use Rattle.saved_files.specs.Taking.{first_unsaved, save_claim}
 use Rattle.state_text.specs.Text.{text as text_of}
 use Rattle.command_session.specs.Live.{Live}
 use Rattle.command_session.specs.Remains.{MachineRemains, Remains}

@@ -1,16 +1,14 @@
-use Rattle.std.proofs.Common.{ap, subst, ◌∙◌, arith}
-use Rattle.saved_session.specs.Parts.{state_in}
-use Rattle.state_text.specs.Readers.{Gives}
-use Rattle.state_text.specs.Reading.{reading}
-use Rattle.state_text.proofs.SealLaws.{reading_again, is_found}
-use Rattle.state_text.proofs.FitLaws.{has_text}
+use Rattle.std.proofs.Common.{[]}
 use Rattle.state_text.proofs.reading.read_state.Goals as goal
 
 pub returns-clause-found : goal.returns-clause-found
-returns-clause-found c = is_found c.args.bytes.now c.whole.result (λ i. omega (arith, c.type_inv.bytes i)) c.whole.ensures
+returns-clause-found c = c.finish.ensures.found c.args.bytes.now (c.in_ok-take.ensures.fed [] c.in_ok-reader.ensures)
 
 pub returns-clause-only : goal.returns-clause-only
-returns-clause-only c = λ s valid e. subst (λ f. Gives state_in c.whole.result f) (ap reading e ∙ reading_again s valid) c.whole.ensures
+returns-clause-only c = c.finish.ensures.only c.args.bytes.now (c.in_ok-take.ensures.fed [] c.in_ok-reader.ensures)
 
 pub returns-clause-fits : goal.returns-clause-fits
-returns-clause-fits c = has_text c.args.bytes.now c.whole.result (λ i. omega (arith, c.type_inv.bytes i)) c.whole.ensures
+returns-clause-fits c = c.finish.ensures.fits c.args.bytes.now (c.in_ok-take.ensures.fed [] c.in_ok-reader.ensures)
+
+pub returns-clause-exact : goal.returns-clause-exact
+returns-clause-exact c = c.finish.ensures.exact c.args.bytes.now (c.in_ok-take.ensures.fed [] c.in_ok-reader.ensures)

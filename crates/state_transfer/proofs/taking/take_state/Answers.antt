@@ -3,8 +3,8 @@ use Rattle.host_lines.specs.State.{LineState}
 use Rattle.telnet_lines.specs.Joined.{seen_line}
 use Rattle.unit_files.specs.Attachments.{Held, attachments_of, file_units}
 use Rattle.saved_session.specs.Parts.{State, state_in}
-use Rattle.saved_files.specs.Restoring.{files_in}
-use Rattle.saved_files.specs.Saving.{file_places, saved_files}
+use Rattle.saved_files.specs.Putting.{files_in}
+use Rattle.saved_files.specs.Taking.{file_places, saved_files}
 use Rattle.saved_session.specs.Valid.{Fits}
 use Rattle.state_transfer.specs.Session.{saved_machine, saved_port}
 use Rattle.saved_session.specs.SavedWatch.{saved_watch}

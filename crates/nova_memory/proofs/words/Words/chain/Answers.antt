@@ -1,4 +1,4 @@
-use Rattle.std.proofs.Common.{ℕ, ◌+◌, ◌-◌, ◌∙◌, Some, sym, ap, arith}
+use Rattle.std.proofs.Common.{◌≡◌, ◌+◌, ◌-◌, ◌%◌, ◌^◌, ◌<◌, ◌≤◌, ◌∙◌, sym, ap, arith, rules}
 use Rattle.nova_memory.specs.Address.{Reference}
 use Rattle.nova_memory.proofs.Chains.{chain-none, chain-end, chain-next}
 use Rattle.nova_memory.proofs.words.Words.chain.Goals as goal
@@ -6,22 +6,28 @@ use Rattle.nova_memory.proofs.words.Words.chain.Goals as goal
 pub loop-level-preserved : goal.loop-level-preserved
 loop-level-preserved c =
     let l = c.loop-level in
-    let w = c.follow-word in
-    chain-next (16 - l._level) (16 - (l._level + 1)) l.self w.new.self l.at w.result _ (omega arith) w.ensures.word w.ensures.memory (omega arith) (grind arith) ∙ l.invariant
+    let f = c.follow-level in
+    let high : 2 ^ 15 ≤ f.result.tested = search rules in
+    let next : c.of_word-at.result ≡ f.result.used % 2 ^ 15 = search rules in
+    chain-next (16 - l._level) (16 - (l._level + 1)) l.self f.new.self l.at f.result.used f.result.tested _ (omega arith) f.ensures.used f.ensures.tested f.ensures.memory high next ∙ l.invariant
 
-pub returns-in-Some-clause-memory : goal.returns-in-Some-clause-memory
-returns-in-Some-clause-memory c =
+pub returns-then-level-lt32768-clause-memory : goal.returns-then-level-lt32768-clause-memory
+returns-then-level-lt32768-clause-memory c =
     let l = c.loop-level in
-    let w = c.follow-word in
-    let e = chain-end (16 - l._level) l.self w.new.self l.at w.result (omega arith) w.ensures.word w.ensures.memory (omega arith) in
+    let f = c.follow-level in
+    let low : f.result.tested < 2 ^ 15 = search rules in
+    let next : c.of_word-at.result ≡ f.result.used % 2 ^ 15 = search rules in
+    let e = chain-end (16 - l._level) l.self f.new.self l.at f.result.used f.result.tested _ (omega arith) f.ensures.used f.ensures.tested f.ensures.memory low next in
     ap (λ (r : Reference). r.memory) (sym e ∙ l.invariant)
 
-pub returns-in-Some-clause-address : goal.returns-in-Some-clause-address
-returns-in-Some-clause-address c =
+pub returns-then-level-lt32768-clause-address : goal.returns-then-level-lt32768-clause-address
+returns-then-level-lt32768-clause-address c =
     let l = c.loop-level in
-    let w = c.follow-word in
-    let e = chain-end (16 - l._level) l.self w.new.self l.at w.result (omega arith) w.ensures.word w.ensures.memory (omega arith) in
-    ap (λ (n : ℕ). Some n) (c.in-Some.ensures.1 ∙ c.word.view_is) ∙ ap (λ (r : Reference). r.address) (sym e ∙ l.invariant)
+    let f = c.follow-level in
+    let low : f.result.tested < 2 ^ 15 = search rules in
+    let next : c.of_word-at.result ≡ f.result.used % 2 ^ 15 = search rules in
+    let e = chain-end (16 - l._level) l.self f.new.self l.at f.result.used f.result.tested _ (omega arith) f.ensures.used f.ensures.tested f.ensures.memory low next in
+    ap (λ (r : Reference). r.address) (sym e ∙ l.invariant)
 
 pub returns-clause-memory : goal.returns-clause-memory
 returns-clause-memory c =

@@ -1,11 +1,13 @@
-use Rattle.state_text.proofs.FedLaws.{tells_fault, tells_short, tells_sealed}
+use Rattle.std.proofs.lemmas.Result.{err_from_is_err_and}
+use Rattle.saved_session.specs.Parts.{state_in}
+use Rattle.state_text.proofs.TellLaws.{tells_fault, tells_sealed}
 use Rattle.state_text.proofs.state_reader.StateReader.told.Goals as goal
 
-pub returns-in-Faulty : goal.returns-in-Faulty
-returns-in-Faulty c = λ fed it. tells_fault c.args.self c.in-Faulty.fault fed c.in-Faulty.is it
+pub returns-in_err-parts : goal.returns-in_err-parts
+returns-in_err-parts c = λ fed it.
+    let p = err_from_is_err_and c.from_residual.result c.from_residual.ensures.1 in
+    rw (p.1, p.2) (tells_fault c.in_err-parts.field-0.0 fed (c.in_err-parts.ensures fed it.reads))
 
-pub returns-in-Seal : goal.returns-in-Seal
-returns-in-Seal c = λ fed it. tells_sealed c.args.self fed c.sealed.result c.in-Seal.is c.sealed.ensures it
-
-pub returns-in_default : goal.returns-in_default
-returns-in_default c = λ fed it. tells_short c.args.self fed c.in_default.not-Seal c.in_default.not-Faulty c.requires it
+pub returns : goal.returns
+returns c = λ fed it.
+    tells_sealed _ c.args.self.reading.kept c.in_ok-parts.pending fed (state_in c.joined.result) c.sealed.result it.kept (c.in_ok-parts.ensures fed it.reads) c.joined.ensures c.sealed.ensures

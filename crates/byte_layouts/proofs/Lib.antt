@@ -1,0 +1,12 @@
+pub mod Results
+pub mod ReaderLaws
+pub mod Widths
+pub mod HeadLaws
+pub mod Lists
+pub mod LayoutLaws
+pub mod ByteLaws
+pub mod PartLaws
+pub mod FedLaws
+pub mod WholeLaws
+pub mod WriteLaws
+pub mod Loops

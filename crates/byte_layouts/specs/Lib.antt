@@ -1,0 +1,6 @@
+pub mod Readers
+pub mod Held
+pub mod Layout
+pub mod Parts
+pub mod Fed
+pub mod Whole

@@ -1,8 +1,0 @@
-use Rattle.state_text.proofs.PieceLaws.{found, few_expects}
-use Rattle.state_text.proofs.trying.try_expect_count.Goals as goal
-
-pub returns : goal.returns
-returns c = record {
-  bytes = c.cursor-cursor.ensures.bytes;
-  found = found few_expects c.args.pending.now c.cursor-cursor.result c.short_count.new.self c.in_ok-found.found c.place.result c.cursor-cursor.ensures.bytes c.cursor-cursor.ensures.at c.in_ok-found.ensures c.place.ensures;
-}
