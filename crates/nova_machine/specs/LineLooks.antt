@@ -1,5 +1,5 @@
 -- Looks of both keyboards at one time, where the line of the second teletype may have a port: it is polled between bursts.
-use Rattle.std.specs.Prelude.{◌≡◌, ℕ, ◌-◌, ◌<◌, ◌≤◌, Bool, false, List, [], ◌∷◌, Option, Some, None}
+use Rattle.std.specs.Prelude.{◌≡◌, ℕ, ◌-◌, ◌<◌, ◌≤◌, Bool, false, List, [], ◌∷◌, slice_get, Option, Some, None}
 use Rattle.unit_trait.specs.declared.kind.UnitName.{UnitName}
 use Rattle.unit_trait.specs.declared.kind.Kind.TheVariants.{Tti1}
 use Rattle.unit_trait.specs.declared.calls.Queue.TheVariants.{After}
@@ -16,7 +16,8 @@ use Rattle.nova_processor.specs.declared.burst.BurstEnd.{BurstEnd}
 use Rattle.nova_processor.specs.declared.burst.BurstEnd.TheVariants as burst_end
 use Rattle.nova_machine.specs.declared.machine.Stop.{Stop}
 use Rattle.nova_machine.specs.declared.machine.Stop.TheVariants.{ChainLimit}
-use Rattle.nova_machine.specs.Machine.{MachineState}
+use Rattle.telnet_lines.specs.Line.{unconnected}
+use Rattle.nova_machine.specs.Machine.{MachineState, console_place}
 use Rattle.nova_machine.specs.Notes.{RunNote}
 use Rattle.nova_machine.specs.Seen.{Seen, seen, beside}
 use Rattle.nova_machine.specs.Comes.{Output, output, Comes, Does}
@@ -33,10 +34,11 @@ pub record LookAgain (period : ℕ) (units : List UnitState) : Type 0 where
   pub first : keyless_wish keyboard units ≡ After period
   pub second : keyless_wish second_keyboard units ≡ After period
 
--- Both keyboards look now, the console's first, and no other event is due.
+-- Both keyboards look now, the console's first, and no other event is due. The console line has no port.
 pub record AreLooking (period : ℕ) (m : MachineState) : Type 0 where
   pub dues : dues m.events ≡ keyboard ∷ second_keyboard ∷ []
   pub again : LookAgain period m.units
+  pub closed : slice_get m.lines console_place ≡ Some (unconnected None)
 
 -- The console's keyboard has looked, and the event of the other one was taken.
 abbrev pub first_looked : ℕ → MachineState → MachineState
