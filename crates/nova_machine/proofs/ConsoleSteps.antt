@@ -1,5 +1,5 @@
 -- What is done on the console line.
-use Rattle.std.proofs.Common.{◌≡◌, ◌≢◌, ◌∙◌, ap, sym, refl, subst, ℕ, zero, Bool, true, false, IsTrue, List, [], ◌∷◌, map, slice_get, slice_set, Option, Some, None, is_some, option_map, inl, inr, nat_le, if◌then◌else◌}
+use Rattle.std.proofs.Common.{◌≡◌, ◌≢◌, ◌∙◌, ap, sym, refl, subst, ℕ, zero, suc, Bool, true, false, IsTrue, List, [], ◌∷◌, map, slice_get, slice_set, Option, Some, None, IfSome, is_some, option_map, inl, inr, nat_le, if◌then◌else◌}
 use Rattle.host_lines.specs.Traffic.{Peer, Answer, Ahead}
 use Rattle.host_lines.specs.Told.{IsFirst, record_in, ahead_of}
 use Rattle.host_lines.specs.State.{LineState}
@@ -11,16 +11,18 @@ use Rattle.telnet_lines.proofs.Several.{stand_apart}
 use Rattle.telnet_lines.proofs.Sending.{nothing_heard}
 use Rattle.expect_actions.specs.Expects.{ExpectTable, match_at, after_printed}
 use Rattle.expect_actions.specs.Sends.{Send, due_send}
+use Rattle.unit_trait.specs.declared.calls.Want.{Want}
 use Rattle.unit_trait.specs.declared.calls.Want.TheVariants as want
 use Rattle.unit_trait.specs.declared.calls.Got.{Got}
 use Rattle.nova_machine.specs.declared.machine.Stop.{Stop}
 use Rattle.nova_machine.specs.declared.machine.Stop.TheVariants.{Expect}
 use Rattle.nova_machine.specs.declared.on_line.OnLine.{OnLine}
+use Rattle.nova_machine.specs.declared.on_line.OnLine.TheVariants.{Gets, Wru, Put}
 use Rattle.nova_machine.specs.Wants.{first_key, got_of_key, key_stop}
 use Rattle.nova_machine.specs.OnLines.{Lined, Around, around_at, lined, lined_by, put_by, put_line, put_got, with_port, console_in, is_ported, console_polled, console_key, console_put}
-use Rattle.nova_machine.specs.OnLine.{got_on, stop_on, expects_on}
+use Rattle.nova_machine.specs.OnLine.{got_on, stop_on, expects_on, IsPlainDone, IsOffLine}
 use Rattle.nova_machine.specs.LineChanges.{ports_of, HaveNoPort, AreLinesTold, DoneOnLine, DoneAs}
-use Rattle.nova_machine.proofs.LineSteps.{StepsAt, no-port-at, seen-at, seen-put, put-seen-parts}
+use Rattle.nova_machine.proofs.LineSteps.{StepsAt, IsOnLine, done-plain, seen-put, put-seen-parts}
 
 -- ---- whether it has a port
 
@@ -64,7 +66,7 @@ ported-same (k ∷ before) (l ∷ after) same =
 
 -- ---- a want that is for no line
 
-key-off : (time : ℕ) (due : Option ℕ) (expects : ExpectTable) (lines : List (LineOf Peer)) (ahead : Ahead) → console_in lines ≡ None → lined want.Key (around_at time due expects lines ahead) ≡ None
+pub key-off : (time : ℕ) (due : Option ℕ) (expects : ExpectTable) (lines : List (LineOf Peer)) (ahead : Ahead) → console_in lines ≡ None → lined want.Key (around_at time due expects lines ahead) ≡ None
 unfolding lined
 key-off time (Some key) expects lines ahead none = refl
 key-off time None expects lines ahead none =
@@ -102,12 +104,58 @@ done-off-byte time byte due expects s lines whole off =
     nothing-as _ s lines expects whole
     (byte-off time byte due expects (map (seen_line s) lines) (ahead_of s.told whole) (console-seen s lines ∙ ap (option_map (seen_line s)) (unported-none lines off)))
 
--- nothing was done on another line
-pub plain-as : (o : Option Lined) (made : Option OnLine) (g : Option Got) (expects : ExpectTable) (whole : List Answer) (old new : LineState) (after : List (LineOf ℕ)) → DoneOnLine o g whole old new after
-    → option_map (λ m. got_on m) made ≡ g → option_map (λ (x : Lined). x.stop) o ≡ option_map (λ m. stop_on m expects) made
-    → option_map (λ (x : Lined). x.expects) o ≡ option_map (λ m. expects_on m expects) made → DoneAs o made expects whole old new after
-plain-as o made g expects whole old new after done got stop waits =
-    record { line = subst (λ (x : Option Got). DoneOnLine o x whole old new after) (sym got) done; stop = stop; waits = waits }
+-- ---- what was done on another line
+
+none-as : (o : Option Lined) (expects : ExpectTable) (whole : List Answer) (old new : LineState) (after : List (LineOf ℕ)) → DoneOnLine o None whole old new after → DoneAs o None expects whole old new after
+none-as None expects whole old new after done = record { line = done; stop = refl; waits = refl }
+none-as (Some l) expects whole old new after done = let no = done.answers in absurd (cc)
+
+pub key-as : (n : ℕ) (a : Around) (g : Got) (whole : List Answer) (old new : LineState) (after : List (LineOf ℕ)) → DoneOnLine (lined (want.LineKey n) a) (Some g) whole old new after
+    → DoneAs (lined (want.LineKey n) a) (Some (Gets g)) a.expects whole old new after
+unfolding lined
+key-as n a g whole old new after = by (slice_get a.lines (suc n))
+  where
+    by : (o : Option (LineOf Peer)) → DoneOnLine (option_map (λ line. lined_by (suc n) a (polled a.time line a.ahead)) o) (Some g) whole old new after
+        → DoneAs (option_map (λ line. lined_by (suc n) a (polled a.time line a.ahead)) o) (Some (Gets g)) a.expects whole old new after
+    by None done = let no = done.answers in absurd (cc)
+    by (Some line) done = record { line = done; stop = refl; waits = refl }
+
+put-as : (n byte : ℕ) (a : Around) (g : Got) (whole : List Answer) (old new : LineState) (after : List (LineOf ℕ)) → DoneOnLine (lined (want.LinePut n byte) a) (Some g) whole old new after
+    → DoneAs (lined (want.LinePut n byte) a) (Some (Gets g)) a.expects whole old new after
+unfolding lined
+put-as n byte a g whole old new after = by (slice_get a.lines (suc n))
+  where
+    by : (o : Option (LineOf Peer)) → DoneOnLine (option_map (put_by (suc n) byte a) o) (Some g) whole old new after
+        → DoneAs (option_map (put_by (suc n) byte a) o) (Some (Gets g)) a.expects whole old new after
+    by None done = let no = done.answers in absurd (cc)
+    by (Some line) done = record { line = done; stop = refl; waits = refl }
+
+pub key-made : (n : ℕ) (a : Around) (made : Option OnLine) (g : Option Got) (whole : List Answer) (old new : LineState) (after : List (LineOf ℕ)) → IfSome made IsPlainDone → option_map (λ m. got_on m) made ≡ g
+    → DoneOnLine (lined (want.LineKey n) a) g whole old new after → DoneAs (lined (want.LineKey n) a) made a.expects whole old new after
+key-made n a made g whole old new after plain got done = by made plain (subst (λ (x : Option Got). DoneOnLine (lined (want.LineKey n) a) x whole old new after) (sym got) done)
+  where
+    by : (made : Option OnLine) → IfSome made IsPlainDone → DoneOnLine (lined (want.LineKey n) a) (option_map (λ m. got_on m) made) whole old new after
+        → DoneAs (lined (want.LineKey n) a) made a.expects whole old new after
+    by None plain done = none-as (lined (want.LineKey n) a) a.expects whole old new after done
+    by (Some (Gets g)) plain done = key-as n a g whole old new after done
+    by (Some Wru) plain done = absurd plain
+    by (Some (Put byte)) plain done = absurd plain
+
+pub put-made : (n byte : ℕ) (a : Around) (made : Option OnLine) (g : Option Got) (whole : List Answer) (old new : LineState) (after : List (LineOf ℕ)) → IfSome made IsPlainDone → option_map (λ m. got_on m) made ≡ g
+    → DoneOnLine (lined (want.LinePut n byte) a) g whole old new after → DoneAs (lined (want.LinePut n byte) a) made a.expects whole old new after
+put-made n byte a made g whole old new after plain got done = by made plain (subst (λ (x : Option Got). DoneOnLine (lined (want.LinePut n byte) a) x whole old new after) (sym got) done)
+  where
+    by : (made : Option OnLine) → IfSome made IsPlainDone → DoneOnLine (lined (want.LinePut n byte) a) (option_map (λ m. got_on m) made) whole old new after
+        → DoneAs (lined (want.LinePut n byte) a) made a.expects whole old new after
+    by None plain done = none-as (lined (want.LinePut n byte) a) a.expects whole old new after done
+    by (Some (Gets g)) plain done = put-as n byte a g whole old new after done
+    by (Some Wru) plain done = absurd plain
+    by (Some (Put b)) plain done = absurd plain
+
+-- a want that no line can do
+pub plain-as : (time : ℕ) (due : Option ℕ) (expects : ExpectTable) (w : Want) (s : LineState) (lines : List (LineOf ℕ)) (whole : List Answer) → (¬ IsOnLine w)
+    → DoneAs (lined w (around_at time due expects (map (seen_line s) lines) (ahead_of s.told whole))) None expects whole s s lines
+plain-as time due expects w s lines whole plain = none-as _ expects whole s s lines (done-plain time due expects w s lines whole plain)
 
 -- ---- a key
 
@@ -131,8 +179,8 @@ done-console-key tells time due expects old new line others after key made whole
       let one = stand_apart 0 old new lines line after refl apart.1 (step.parties apart.0) in
       let a = around_at time due expects (map (seen_line old) lines) (ahead_of old.told whole) in
       let q = polled time (seen_line old line) (ahead_of old.told whole) in
-      let in : console_in (map (seen_line old) lines) ≡ Some (seen_line old line) = console-seen old lines ∙ ap (option_map (seen_line old)) (ported-in line others some) in
-      subst (λ (l : Option Lined). DoneAs l (Some made) expects whole old new (after ∷ others)) (sym (console-lined time due expects (map (seen_line old) lines) (seen_line old line) (ahead_of old.told whole) none in))
+      let there : console_in (map (seen_line old) lines) ≡ Some (seen_line old line) = console-seen old lines ∙ ap (option_map (seen_line old)) (ported-in line others some) in
+      subst (λ (l : Option Lined). DoneAs l (Some made) expects whole old new (after ∷ others)) (sym (console-lined time due expects (map (seen_line old) lines) (seen_line old line) (ahead_of old.told whole) none there))
       (record {
         line = record {
           answers = ap Some (got ∙ ap got_of_key (sym (p.key_is whole first)));
@@ -168,8 +216,8 @@ pub done-console-put : (time byte : ℕ) (due : Option ℕ) (expects : ExpectTab
 done-console-put time byte due expects s line others after made whole some put got stop waits =
     let lines = line ∷ others in
     let full = full-seen s line in
-    let in : console_in (map (seen_line s) lines) ≡ Some (seen_line s line) = console-seen s lines ∙ ap (option_map (seen_line s)) (ported-in line others some) in
-    subst (λ (l : Option Lined). DoneAs l (Some made) expects whole s s (after ∷ others)) (sym (byte-lined time byte due expects (map (seen_line s) lines) (seen_line s line) (ahead_of s.told whole) in))
+    let there : console_in (map (seen_line s) lines) ≡ Some (seen_line s line) = console-seen s lines ∙ ap (option_map (seen_line s)) (ported-in line others some) in
+    subst (λ (l : Option Lined). DoneAs l (Some made) expects whole s s (after ∷ others)) (sym (byte-lined time byte due expects (map (seen_line s) lines) (seen_line s line) (ahead_of s.told whole) there))
     (record {
       line = record {
         answers = ap Some (got ∙ sym (put-seen-parts s byte line.port line.connection line.keys line.output line.rest).1);
@@ -180,6 +228,10 @@ done-console-put time byte due expects s line others after made whole some put g
       stop = ap Some (ap (λ (b : Bool). if b then None else option_map Expect (match_at byte expects)) full ∙ sym stop);
       waits = ap Some (ap (λ (b : Bool). if b then expects else after_printed byte expects) full ∙ sym waits);
     })
+
+-- where it has no port, a key is wanted of no line
+pub closed-off : (lines : List (LineOf ℕ)) (due : Option ℕ) → slice_get lines 0 ≡ Some (unconnected None) → IsOffLine want.Key (is_ported lines) due
+closed-off lines due closed = λ ported. let no : is_ported lines ≡ false = ap (λ (o : Option (LineOf ℕ)). is_some o) (closed-none lines closed) in absurd (cc)
 
 -- ---- other keys
 

@@ -34,19 +34,19 @@ pub record LookAgain (period : ℕ) (units : List UnitState) : Type 0 where
   pub first : keyless_wish keyboard units ≡ After period
   pub second : keyless_wish second_keyboard units ≡ After period
 
--- Both keyboards look now, the console's first, and no other event is due. The console line has no port.
+-- Both keyboards look now, the console's first, and no other event is due.
 pub record AreLooking (period : ℕ) (m : MachineState) : Type 0 where
   pub dues : dues m.events ≡ keyboard ∷ second_keyboard ∷ []
   pub again : LookAgain period m.units
-  pub closed : slice_get m.lines console_place ≡ Some (unconnected None)
 
 -- The console's keyboard has looked, and the event of the other one was taken.
 abbrev pub first_looked : ℕ → MachineState → MachineState
 first_looked period m = record m { events = served (activated keyboard period (served m.events)) }
 
--- no key of the console is due
+-- No key of the console comes: none is due, and its line has no port.
 abbrev pub IsKeylessNow : WatchState → List (ℕ × ℕ) → MachineState → Type 0
-IsKeylessNow watch keys m = (due_send m.time watch.sends ≡ None) × (due_key keys m.taken m.time ≡ None)
+IsKeylessNow watch keys m =
+    (due_send m.time watch.sends ≡ None) × (due_key keys m.taken m.time ≡ None) × (slice_get m.lines console_place ≡ Some (unconnected None))
 
 -- Of so many turns some are done, with polls of the lines among them: what those that are left come to, they all come to,
 -- whichever files, failing calls and console there are. A chain without an end has ended them.

@@ -1,13 +1,11 @@
 // Looks of both keyboards at one time, where the line of the second teletype has a port: it is polled between bursts,
 // and no turn is made for it.
-ghost use Rattle.std.specs.Prelude.{◌≡◌, ◌≢◌, ◌<◌, ◌≤◌, ◌+◌, ℕ, List, [], ◌∷◌, true, false, None, Some, IfSome, option_map, slice_get};
+ghost use Rattle.std.specs.Prelude.{◌≡◌, ◌≢◌, ◌<◌, ◌≤◌, ◌+◌, ℕ, List, [], ◌∷◌, true, false, None, Some, IfSome, option_map};
 ghost use Rattle.event_queue.specs.EventList.{dues};
 ghost use Rattle.unit_list.specs.Bus.{kinds_of};
 ghost use Rattle.host_lines.specs.State.{LineState};
 ghost use Rattle.expect_actions.specs.Watch.{WatchState};
 ghost use Rattle.nova_processor.specs.declared.burst.BurstEnd.TheVariants as burst_end;
-ghost use Rattle.telnet_lines.specs.Line.{unconnected};
-ghost use Rattle.nova_machine.specs.Machine.{console_place};
 ghost use Rattle.nova_machine.specs.Run.{last_time};
 ghost use Rattle.nova_machine.specs.Looks.{keyboard};
 ghost use Rattle.nova_machine.specs.LineLooks.{second_keyboard, first_looked, LookAgain, AreLooking, IsKeylessNow, GoesOn, IsAhead};
@@ -121,7 +119,6 @@ impl<U: Unit> Machine<U> {
         ensures due { result ≡ true → dues self.now.events ≡ keyboard ∷ second_keyboard ∷ [] }
         ensures keyless { result ≡ true → IsKeylessNow watch.now keys.now self.now }
         ensures early { result ≡ true → self.now.time < last_time }
-        ensures closed { result ≡ true → slice_get self.now.lines console_place ≡ Some (unconnected None) }
     {
         if !self.is_console_closed() || !self.are_both_due() {
             return false;

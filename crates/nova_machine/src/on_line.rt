@@ -184,7 +184,6 @@ impl<U: Unit> Machine<U> {
 /// What was done on a line that is no console's.
 fn gets(got: Option<Got>) -> Option<OnLine>
     ensures got { option_map (λ made. got_on made) result ≡ got }
-    ensures plain { (expects : ExpectTable) → IfSome result (λ made. (stop_on made expects ≡ None) × (expects_on made expects ≡ expects)) }
     ensures made { IfSome result IsPlainDone }
     ensures none { result ≡ None → got ≡ None }
 {
