@@ -5,6 +5,7 @@ use Rattle.nova_machine.specs.Notes.{unit_note, failure_of_stop}
 use Rattle.nova_machine.specs.Seen.{seen, beside}
 use Rattle.host_lines.specs.Told.{record_in}
 use Rattle.telnet_lines.specs.Line.{LineOf}
+use Rattle.nova_machine.specs.OnLines.{is_ported}
 use Rattle.unit_files.specs.Acts.{Failure}
 use Rattle.nova_machine.specs.Service.{service}
 use Rattle.nova_machine.specs.LineChanges.{AreLinesTold, LinesGoOn}
