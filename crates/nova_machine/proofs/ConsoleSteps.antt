@@ -1,5 +1,5 @@
 -- What is done on the console line.
-use Rattle.std.proofs.Common.{◌≡◌, ◌≢◌, ◌∙◌, ap, sym, refl, subst, ℕ, zero, suc, Bool, true, false, IsTrue, List, [], ◌∷◌, map, slice_get, slice_set, Option, Some, None, IfSome, is_some, option_map, inl, inr, nat_le, if◌then◌else◌}
+use Rattle.std.proofs.Common.{◌≡◌, ◌≢◌, ◌∙◌, ap, sym, refl, subst, ℕ, zero, suc, Bool, true, false, IsTrue, List, [], ◌∷◌, map, slice_get, slice_set, Option, Some, None, is_some, ◌||◌, option_map, inl, inr, nat_le, if◌then◌else◌}
 use Rattle.host_lines.specs.Traffic.{Peer, Answer, Ahead}
 use Rattle.host_lines.specs.Told.{IsFirst, record_in, ahead_of}
 use Rattle.host_lines.specs.State.{LineState}
@@ -17,17 +17,17 @@ use Rattle.unit_trait.specs.declared.calls.Got.{Got}
 use Rattle.nova_machine.specs.declared.machine.Stop.{Stop}
 use Rattle.nova_machine.specs.declared.machine.Stop.TheVariants.{Expect}
 use Rattle.nova_machine.specs.declared.on_line.OnLine.{OnLine}
-use Rattle.nova_machine.specs.declared.on_line.OnLine.TheVariants.{Gets, Wru, Put}
+use Rattle.nova_machine.specs.declared.on_line.OnLine.TheVariants.{Gets}
 use Rattle.nova_machine.specs.Wants.{first_key, got_of_key, key_stop}
 use Rattle.nova_machine.specs.OnLines.{Lined, Around, around_at, lined, lined_by, put_by, put_line, put_got, with_port, console_in, is_ported, console_polled, console_key, console_put}
-use Rattle.nova_machine.specs.OnLine.{got_on, stop_on, expects_on, IsPlainDone, IsOffLine}
+use Rattle.nova_machine.specs.OnLine.{got_on, stop_on, expects_on, IsOffLine}
 use Rattle.nova_machine.specs.LineChanges.{ports_of, HaveNoPort, AreLinesTold, DoneOnLine, DoneAs}
 use Rattle.nova_machine.proofs.LineSteps.{StepsAt, IsOnLine, done-plain, seen-put, put-seen-parts}
 
 -- ---- whether it has a port
 
-pub ported-is : {P : Type 0} (line : LineOf P) (lines : List (LineOf P)) → is_ported (line ∷ lines) ≡ is_some line.port
-ported-is {P} line lines = by (is_some line.port)
+pub ported_is : {P : Type 0} (line : LineOf P) (lines : List (LineOf P)) → is_ported (line ∷ lines) ≡ is_some line.port
+ported_is {P} line lines = by (is_some line.port)
   where
     by : (b : Bool) → is_some (if b then Some line else None) ≡ b
     by true = refl
@@ -36,7 +36,7 @@ ported-is {P} line lines = by (is_some line.port)
 pub closed-none : {P : Type 0} (lines : List (LineOf P)) → slice_get lines 0 ≡ Some (unconnected None) → console_in lines ≡ None
 closed-none {P} lines closed = ap (λ (o : Option (LineOf P)). with_port o) closed
 
-none-of : {A : Type 0} (o : Option A) → is_some o ≡ false → o ≡ None
+pub none-of : {A : Type 0} (o : Option A) → is_some o ≡ false → o ≡ None
 none-of None is = refl
 none-of (Some a) is = absurd (cc)
 
@@ -62,7 +62,7 @@ ported-same [] (l ∷ after) same = absurd (cc)
 ported-same (k ∷ before) [] same = absurd (cc)
 ported-same (k ∷ before) (l ∷ after) same =
     let one : l.port ≡ k.port = cc in
-    ported-is l after ∙ ap (λ (p : Option ℕ). is_some p) one ∙ sym (ported-is k before)
+    ported_is l after ∙ ap (λ (p : Option ℕ). is_some p) one ∙ sym (ported_is k before)
 
 -- ---- a want that is for no line
 
@@ -106,7 +106,7 @@ done-off-byte time byte due expects s lines whole off =
 
 -- ---- what was done on another line
 
-none-as : (o : Option Lined) (expects : ExpectTable) (whole : List Answer) (old new : LineState) (after : List (LineOf ℕ)) → DoneOnLine o None whole old new after → DoneAs o None expects whole old new after
+pub none-as : (o : Option Lined) (expects : ExpectTable) (whole : List Answer) (old new : LineState) (after : List (LineOf ℕ)) → DoneOnLine o None whole old new after → DoneAs o None expects whole old new after
 none-as None expects whole old new after done = record { line = done; stop = refl; waits = refl }
 none-as (Some l) expects whole old new after done = let no = done.answers in absurd (cc)
 
@@ -120,7 +120,7 @@ key-as n a g whole old new after = by (slice_get a.lines (suc n))
     by None done = let no = done.answers in absurd (cc)
     by (Some line) done = record { line = done; stop = refl; waits = refl }
 
-put-as : (n byte : ℕ) (a : Around) (g : Got) (whole : List Answer) (old new : LineState) (after : List (LineOf ℕ)) → DoneOnLine (lined (want.LinePut n byte) a) (Some g) whole old new after
+pub put-as : (n byte : ℕ) (a : Around) (g : Got) (whole : List Answer) (old new : LineState) (after : List (LineOf ℕ)) → DoneOnLine (lined (want.LinePut n byte) a) (Some g) whole old new after
     → DoneAs (lined (want.LinePut n byte) a) (Some (Gets g)) a.expects whole old new after
 unfolding lined
 put-as n byte a g whole old new after = by (slice_get a.lines (suc n))
@@ -130,32 +130,15 @@ put-as n byte a g whole old new after = by (slice_get a.lines (suc n))
     by None done = let no = done.answers in absurd (cc)
     by (Some line) done = record { line = done; stop = refl; waits = refl }
 
-pub key-made : (n : ℕ) (a : Around) (made : Option OnLine) (g : Option Got) (whole : List Answer) (old new : LineState) (after : List (LineOf ℕ)) → IfSome made IsPlainDone → option_map (λ m. got_on m) made ≡ g
-    → DoneOnLine (lined (want.LineKey n) a) g whole old new after → DoneAs (lined (want.LineKey n) a) made a.expects whole old new after
-key-made n a made g whole old new after plain got done = by made plain (subst (λ (x : Option Got). DoneOnLine (lined (want.LineKey n) a) x whole old new after) (sym got) done)
-  where
-    by : (made : Option OnLine) → IfSome made IsPlainDone → DoneOnLine (lined (want.LineKey n) a) (option_map (λ m. got_on m) made) whole old new after
-        → DoneAs (lined (want.LineKey n) a) made a.expects whole old new after
-    by None plain done = none-as (lined (want.LineKey n) a) a.expects whole old new after done
-    by (Some (Gets g)) plain done = key-as n a g whole old new after done
-    by (Some Wru) plain done = absurd plain
-    by (Some (Put byte)) plain done = absurd plain
-
-pub put-made : (n byte : ℕ) (a : Around) (made : Option OnLine) (g : Option Got) (whole : List Answer) (old new : LineState) (after : List (LineOf ℕ)) → IfSome made IsPlainDone → option_map (λ m. got_on m) made ≡ g
-    → DoneOnLine (lined (want.LinePut n byte) a) g whole old new after → DoneAs (lined (want.LinePut n byte) a) made a.expects whole old new after
-put-made n byte a made g whole old new after plain got done = by made plain (subst (λ (x : Option Got). DoneOnLine (lined (want.LinePut n byte) a) x whole old new after) (sym got) done)
-  where
-    by : (made : Option OnLine) → IfSome made IsPlainDone → DoneOnLine (lined (want.LinePut n byte) a) (option_map (λ m. got_on m) made) whole old new after
-        → DoneAs (lined (want.LinePut n byte) a) made a.expects whole old new after
-    by None plain done = none-as (lined (want.LinePut n byte) a) a.expects whole old new after done
-    by (Some (Gets g)) plain done = put-as n byte a g whole old new after done
-    by (Some Wru) plain done = absurd plain
-    by (Some (Put b)) plain done = absurd plain
-
 -- a want that no line can do
 pub plain-as : (time : ℕ) (due : Option ℕ) (expects : ExpectTable) (w : Want) (s : LineState) (lines : List (LineOf ℕ)) (whole : List Answer) → (¬ IsOnLine w)
     → DoneAs (lined w (around_at time due expects (map (seen_line s) lines) (ahead_of s.told whole))) None expects whole s s lines
 plain-as time due expects w s lines whole plain = none-as _ expects whole s s lines (done-plain time due expects w s lines whole plain)
+
+pub plain-off : (w : Want) (ported : Bool) (due : Option ℕ) → (¬ IsOnLine w) → IsOffLine w ported due
+plain-off want.Key ported due plain = absurd (plain tt)
+plain-off (want.Console byte) ported due plain = absurd (plain tt)
+plain-off w ported due plain = tt
 
 -- ---- a key
 
@@ -234,6 +217,10 @@ pub closed-off : (lines : List (LineOf ℕ)) (due : Option ℕ) → slice_get li
 closed-off lines due closed = λ ported. let no : is_ported lines ≡ false = ap (λ (o : Option (LineOf ℕ)). is_some o) (closed-none lines closed) in absurd (cc)
 
 -- ---- other keys
+
+pub first_some : (sent typed : Option ℕ) → is_some (first_key sent typed) ≡ (is_some sent || is_some typed)
+first_some None typed = refl
+first_some (Some key) typed = refl
 
 -- a byte of SEND is due where the first has come
 send-due : (time : ℕ) (sends : List Send) → is_some (due_send time sends) ≡ (elim (slice_get sends 0) [ | None ↦ false | Some send ↦ nat_le send.0 time ])

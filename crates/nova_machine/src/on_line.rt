@@ -13,12 +13,12 @@ ghost use Rattle.unit_trait.specs.declared.calls.Want.TheVariants as wants;
 ghost use Rattle.nova_machine.specs.declared.machine.Stop.TheVariants.{Expect};
 ghost use Rattle.nova_machine.specs.Wants.{first_key, got_of_key, key_stop};
 ghost use Rattle.nova_machine.specs.OnLines.{lined, around_at, got_of_line, put_line, put_got, is_ported, IsOfLine, IsOfPoll};
-ghost use Rattle.nova_machine.specs.OnLine.{got_on, stop_on, expects_on, IsPlainDone, IsKeyDone, IsByteDone, IsDoneOn, IsOffLine};
+ghost use Rattle.nova_machine.specs.OnLine.{got_on, stop_on, expects_on, IsKeyDone, IsByteDone, IsDoneOn, IsOffLine};
 ghost use Rattle.nova_machine.specs.LineChanges.{AreLinesTold, LinesGoOn, DoneOnLine, DoneAs};
 
 use crate::machine::Machine;
 use crate::service::WRU;
-use expect_actions::{Keys, Watch};
+use expect_actions::{Keys, Sends, Watch};
 use host_lines::Lines;
 use telnet_lines::{Line, LineFull};
 use unit_trait::{Got, Unit, Want};
@@ -62,8 +62,14 @@ impl<U: Unit> Machine<U> {
             (first_key (due_send self.old.time watch.now.sends) (due_key keys.now self.old.taken self.old.time)) }
     {
         match want {
-            Want::LineKey(number) => gets(self.key_of_line(number, lines)),
-            Want::LinePut { line, byte } => gets(self.put_on_line(line, byte)),
+            Want::LineKey(number) => match self.key_of_line(number, lines) {
+                Some(got) => Some(OnLine::Gets(got)),
+                None => None,
+            },
+            Want::LinePut { line, byte } => match self.put_on_line(line, byte) {
+                Some(got) => Some(OnLine::Gets(got)),
+                None => None,
+            },
             Want::Key => self.key_of_console(watch, keys, lines),
             Want::Console(byte) => self.put_on_console(byte),
             Want::Nothing
@@ -140,7 +146,10 @@ impl<U: Unit> Machine<U> {
         ensures off { result ≡ None → IsOffLine wants.Key (is_ported self.old.lines)
             (first_key (due_send self.old.time watch.now.sends) (due_key keys.now self.old.taken self.old.time)) }
     {
-        if self.console.is_closed() || self.has_key(watch, keys) {
+        if !self.is_console_ported() {
+            return None;
+        }
+        if self.has_key(watch, keys) {
             return None;
         }
         let time = self.time;
@@ -148,16 +157,21 @@ impl<U: Unit> Machine<U> {
         Some(of_console(key))
     }
 
+    /// Whether the console line has a port.
+    #[tactic(auto, using(crate::proofs::ConsoleSteps::ported_is))]
+    fn is_console_ported(&self) -> bool
+        ensures { result ≡ is_ported self.now.lines }
+    {
+        self.console.port().is_some()
+    }
+
     /// Whether a byte of SEND or a typed key is due for the console.
+    #[tactic(auto, using(crate::proofs::ConsoleSteps::first_some))]
     fn has_key(&self, watch: &Watch, keys: &Keys) -> bool
         ensures { result ≡ is_some
             (first_key (due_send self.now.time watch.now.sends) (due_key keys.now self.now.taken self.now.time)) }
     {
-        let sent = match watch.sends.in_order(0) {
-            None => false,
-            Some(send) => send.0 <= self.time,
-        };
-        sent || keys.due(self.taken, self.time).is_some()
+        has_sent(&watch.sends, self.time) || keys.due(self.taken, self.time).is_some()
     }
 
     /// Puts a byte on the console line, where that has a port.
@@ -174,22 +188,20 @@ impl<U: Unit> Machine<U> {
         ensures off { result ≡ None → (due : Option ℕ)
             → IsOffLine (wants.Console byte) (is_ported self.old.lines) due }
     {
-        if self.console.is_closed() {
+        if !self.is_console_ported() {
             return None;
         }
         Some(put_of_console(&mut self.console, byte))
     }
 }
 
-/// What was done on a line that is no console's.
-fn gets(got: Option<Got>) -> Option<OnLine>
-    ensures got { option_map (λ made. got_on made) result ≡ got }
-    ensures made { IfSome result IsPlainDone }
-    ensures none { result ≡ None → got ≡ None }
+/// Whether a byte that was sent is due.
+fn has_sent(sends: &Sends, time: u64) -> bool
+    ensures { result ≡ is_some (due_send time sends.now) }
 {
-    match got {
-        None => None,
-        Some(got) => Some(OnLine::Gets(got)),
+    match sends.in_order(0) {
+        None => false,
+        Some(send) => send.0 <= time,
     }
 }
 
