@@ -7,6 +7,7 @@ mod acts;
 mod bursts;
 #[cfg(test)]
 mod chance;
+#[cfg(test)]
 mod consoles;
 #[cfg(test)]
 mod lines;

@@ -1,5 +1,6 @@
 -- What is done on the console line.
 use Rattle.std.proofs.Common.{◌≡◌, ◌≢◌, ◌∙◌, ap, sym, refl, subst, ℕ, zero, suc, Bool, true, false, IsTrue, List, [], ◌∷◌, map, slice_get, slice_set, Option, Some, None, is_some, ◌||◌, option_map, inl, inr, nat_le, if◌then◌else◌}
+use Rattle.std.proofs.lemmas.Option.{same_Some}
 use Rattle.host_lines.specs.Traffic.{Peer, Answer, Ahead}
 use Rattle.host_lines.specs.Told.{IsFirst, record_in, ahead_of}
 use Rattle.host_lines.specs.State.{LineState}
@@ -223,10 +224,18 @@ first_some None typed = refl
 first_some (Some key) typed = refl
 
 -- a byte of SEND is due where the first has come
-send-due : (time : ℕ) (sends : List Send) → is_some (due_send time sends) ≡ (elim (slice_get sends 0) [ | None ↦ false | Some send ↦ nat_le send.0 time ])
-send-due time [] = refl
-send-due time (send ∷ others) = by (nat_le send.0 time)
+pub send_none : (time : ℕ) (sends : List Send) → slice_get sends 0 ≡ None → false ≡ is_some (due_send time sends)
+send_none time [] none = refl
+send_none time (send ∷ others) none = absurd (cc)
+
+pub send_some : (time : ℕ) (sends : List Send) (send : Send) → slice_get sends 0 ≡ Some send → nat_le send.0 time ≡ is_some (due_send time sends)
+send_some time [] send there = absurd (cc)
+send_some time (first ∷ others) send there =
+    let same : first ≡ send = same_Some first send there in
+    ap (λ (x : Send). nat_le x.0 time) (sym same) ∙ by (nat_le first.0 time)
   where
-    by : (b : Bool) → is_some (if b then Some send.1 else None) ≡ b
+    by : (b : Bool) → b ≡ is_some (if b then Some first.1 else None)
     by true = refl
     by false = refl
+
+pub ruleset sends_due = (send_none, send_some)

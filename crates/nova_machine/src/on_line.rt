@@ -196,6 +196,7 @@ impl<U: Unit> Machine<U> {
 }
 
 /// Whether a byte that was sent is due.
+#[tactic(auto, using(crate::proofs::ConsoleSteps::sends_due))]
 fn has_sent(sends: &Sends, time: u64) -> bool
     ensures { result ≡ is_some (due_send time sends.now) }
 {
