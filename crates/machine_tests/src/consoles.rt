@@ -22,10 +22,10 @@ words: 400 | sends: 100:1000:Y | do: step=101:Stepped | shows: TTI.DONE=1 TTI.BU
 words: 400 | sends: 100:1000:Y | do: step=201:Stepped | shows: TTI.DONE=1 TTI.BUF=101 | sent:  | console: 0";
 
 const A_TEXT_ON_THE_CONSOLE_LINE_STOPS_A_RUN: &str = "; also where nobody is connected: the byte goes nowhere
-words: 61111 63611 777 63077 | put: AC0=101 | types: | expects: 1:A | do: run=9999:Expect.0 AC0?101 time?101 TTO.DONE?1 run=9999:Halt | sent:  | console: 0
+words: 61111 63611 777 63077 | put: AC0=101 | types: | expects: 1:A | do: run=9999:Expect.0 AC0?101 time?100 TTO.DONE?1 run=9999:Halt | sent:  | console: 0
 words: 61111 63611 777 63077 | put: AC0=101 | expects: 1:B | matches: 1 | do: run=9999:Halt | shows: TTO.DONE=1 TTO.BUF=101
 ; without a port the byte is printed, and no call is made: each would fail
-words: 61111 63611 777 63077 | put: AC0=101 | port: none | refuses: 0 1 2 3 4 5 | expects: 1:A | do: run=9999:Expect.0 AC0?101 time?101 run=9999:Halt | prints: A | sent: nothing | console: free";
+words: 61111 63611 777 63077 | put: AC0=101 | port: none | refuses: 0 1 2 3 4 5 | expects: 1:A | do: run=9999:Expect.0 AC0?101 time?100 run=9999:Halt | prints: A | sent: nothing | console: free";
 
 const EACH_KEYBOARD_HAS_ITS_LINE: &str = "words: 400 | do: step=101:Stepped | shows: TTI.DONE=1 TTI.BUF=101 TTI1.DONE=0 TTI1.BUF=0 | sent:  | line: free | console: 0
 words: 400 | port: given | do: step=101:Stepped | shows: TTI.DONE=0 TTI.BUF=0 TTI1.DONE=1 TTI1.BUF=101 | sent:  | line: 0 | console: free";
