@@ -189,7 +189,6 @@ impl<U: Unit> Machine<U> {
     }
 
     /// Gives a unit what was done on a line. A byte that was put on the console line may end a text that is waited for.
-    #[tactic(auto, unfolding(crate::specs::Service::answered))]
     fn answer_on_line(&mut self, unit: UnitName, made: OnLine, watch: &mut Watch) -> Option<Stop>
         requires number { unit.unit < units_of unit.kind }
         requires room { TakesAnswerIn unit.kind (got_on made) self.old.units }
