@@ -44,6 +44,7 @@ lined-stops P want.Key a l none stops ends there = due a.due there
         let p = polled a.time line a.ahead in
         let same : console_polled a p ≡ l = cc in
         subst (λ (x : Lined). P x.stop) same (key-case P none stops p.key)
+
     due : (key : Option ℕ) → console_key key a ≡ Some l → P l.stop
     due None there = by (console_in a.lines) there
     due (Some key) there = absurd (cc)

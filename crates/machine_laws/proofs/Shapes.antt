@@ -112,6 +112,7 @@ lined-same want.Key a l there = due a.due there
         let q = polled a.time line a.ahead in
         let same : console_polled a q ≡ l = cc in
         subst (λ (x : Lined). SameLines a.lines x.lines) same (set-same 0 a.lines line q.line (console-at a.lines line at) (polled-port a.time line a.ahead))
+
     due : (key : Option ℕ) → console_key key a ≡ Some l → SameLines a.lines l.lines
     due None there = by (console_in a.lines) refl there
     due (Some key) there = absurd (cc)

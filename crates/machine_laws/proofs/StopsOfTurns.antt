@@ -83,8 +83,7 @@ unit-own_service fault u s =
 unit-line : (u : UnitName) (l : Lined) (s : Seen) → lined_at u s ≡ Some l → IsUnitStop (line_service u l s).stop
 unfolding line_service answered
 unit-line u l s there =
-    let own = unit-stop_by u _ in
-    lined-stops (λ (o : Option Stop). IsUnitStop (first_stop o (answered u l.got (asked u s.machine)).stop)) (want_at u s.machine) (around s) l own tt (λ k. tt) there
+    lined-stops (λ (o : Option Stop). IsUnitStop (first_stop o (answered u l.got (asked u s.machine)).stop)) (want_at u s.machine) (around s) l (unit-stop_by u _) tt (λ k. tt) there
 
 unit-service : (fault : Option Failure) (u : UnitName) (s : Seen) → IsUnitStop (service fault u s).stop
 unit-service fault u s = each-service (λ p. IsUnitStop p.stop) fault u s (unit-own_service fault u s) (λ l is. unit-line u l s is)

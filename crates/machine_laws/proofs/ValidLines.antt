@@ -362,6 +362,7 @@ lined-valid want.Key a l writes prints all coming there = due a.due there
         let same : console_polled a q ≡ l = cc in
         subst (ValidLined want.Key a.expects) same
         (record { got = given-key q.key p.key; lines = every-set ValidLine a.lines 0 q.line p.line all; ahead = p.ahead; waits = inl refl })
+
     due : (key : Option ℕ) → console_key key a ≡ Some l → ValidLined want.Key a.expects l
     due None there = by (console_in a.lines) (console-found a.lines all) there
     due (Some key) there = absurd (cc)

@@ -3,7 +3,8 @@ use crate::machines::{Units, all};
 use std::test::Fail;
 
 /// Caller 1 types two letters, no call fails, and nothing is printed.
-const BASE: &str = "port: console | takes: 100 | types: AB | lost: 0 | room: 100 | prints: | taken: 0";
+const BASE: &str =
+    "port: console | takes: 100 | types: AB | lost: 0 | room: 100 | prints: | taken: 0";
 
 const A_PROGRAM_ECHOES_WHAT_A_CALLER_OF_THE_CONSOLE_TYPES: &str =
     "; two keys are echoed on the line, and the second of them is sent at the look behind the HALT
@@ -15,19 +16,22 @@ words: 400 | do: step=101:Stepped TTI.DONE?1 TTI.BUF?101 step=100:Stepped | show
 ; control E of the line stops the run, and the unit gets no key
 words: 400 | types: \x05B | do: run=9999:Wru PC?100 time?100 TTI.DONE?0 step=101:Stepped | shows: TTI.DONE=1 TTI.BUF=102 | sent:  | console: 0";
 
-const OTHER_KEYS_COME_FIRST: &str = "; no poll is made where a typed key is due, nor where a byte of SEND is
+const OTHER_KEYS_COME_FIRST: &str =
+    "; no poll is made where a typed key is due, nor where a byte of SEND is
 words: 400 | keys: 100 \"k\"~ | do: step=101:Stepped | shows: TTI.DONE=1 TTI.BUF=153 | taken: 1 | sent: nothing | console: free
 words: 400 | keys: 100 \"k\"~ | do: step=201:Stepped | shows: TTI.DONE=1 TTI.BUF=101 | taken: 1 | sent:  | console: 0
 words: 400 | sends: 100:1000:Y | do: step=101:Stepped | shows: TTI.DONE=1 TTI.BUF=131 | sent: nothing | console: free
 words: 400 | sends: 100:1000:Y | do: step=201:Stepped | shows: TTI.DONE=1 TTI.BUF=101 | sent:  | console: 0";
 
-const A_TEXT_ON_THE_CONSOLE_LINE_STOPS_A_RUN: &str = "; also where nobody is connected: the byte goes nowhere
+const A_TEXT_ON_THE_CONSOLE_LINE_STOPS_A_RUN: &str =
+    "; also where nobody is connected: the byte goes nowhere
 words: 61111 63611 777 63077 | put: AC0=101 | types: | expects: 1:A | do: run=9999:Expect.0 AC0?101 time?100 TTO.DONE?1 run=9999:Halt | sent:  | console: 0
 words: 61111 63611 777 63077 | put: AC0=101 | expects: 1:B | matches: 1 | do: run=9999:Halt | shows: TTO.DONE=1 TTO.BUF=101
 ; without a port the byte is printed, and no call is made: each would fail
 words: 61111 63611 777 63077 | put: AC0=101 | port: none | refuses: 0 1 2 3 4 5 | expects: 1:A | do: run=9999:Expect.0 AC0?101 time?100 run=9999:Halt | prints: A | sent: nothing | console: free";
 
-const EACH_KEYBOARD_HAS_ITS_LINE: &str = "words: 400 | do: step=101:Stepped | shows: TTI.DONE=1 TTI.BUF=101 TTI1.DONE=0 TTI1.BUF=0 | sent:  | line: free | console: 0
+const EACH_KEYBOARD_HAS_ITS_LINE: &str =
+    "words: 400 | do: step=101:Stepped | shows: TTI.DONE=1 TTI.BUF=101 TTI1.DONE=0 TTI1.BUF=0 | sent:  | line: free | console: 0
 words: 400 | port: given | do: step=101:Stepped | shows: TTI.DONE=0 TTI.BUF=0 TTI1.DONE=1 TTI1.BUF=101 | sent:  | line: 0 | console: free";
 
 #[test]
@@ -39,13 +43,7 @@ fn consoles_type_and_print(rt: HostRuntime) -> Result<(), Fail> {
         BASE,
         A_PROGRAM_ECHOES_WHAT_A_CALLER_OF_THE_CONSOLE_TYPES,
     )?;
-    all(
-        &rt,
-        rt.alloc(),
-        Units::Console,
-        BASE,
-        OTHER_KEYS_COME_FIRST,
-    )?;
+    all(&rt, rt.alloc(), Units::Console, BASE, OTHER_KEYS_COME_FIRST)?;
     all(
         &rt,
         rt.alloc(),

@@ -270,7 +270,11 @@ fn is_last_level(memory: &mut Memory, before: bool, word: u16, ends: bool) -> bo
 fn the_16th_tested_word_ends_a_chain(rt: HostRuntime) -> Result<(), Fail> {
     let mut memory = Memory::new(rt.alloc())?;
     for row in LAST_LEVELS.iter() {
-        holds(&rt, is_last_level(&mut memory, row.0, row.1, row.2), "a 16th level");
+        holds(
+            &rt,
+            is_last_level(&mut memory, row.0, row.1, row.2),
+            "a 16th level",
+        );
     }
     Ok(())
 }

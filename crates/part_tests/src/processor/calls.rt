@@ -67,8 +67,16 @@ fn each_call_goes_on_behind_its_word(rt: HostRuntime) -> Result<(), Fail> {
     holds(&rt, skips(&mut processor), "skips");
     holds(&rt, executes(&mut processor), "other words");
     holds(&rt, follows(&mut processor), "an interrupt");
-    holds(&rt, follows_through_20(&mut processor, true), "bit 0 tested before the change");
-    holds(&rt, follows_through_20(&mut processor, false), "bit 0 tested behind it");
+    holds(
+        &rt,
+        follows_through_20(&mut processor, true),
+        "bit 0 tested before the change",
+    );
+    holds(
+        &rt,
+        follows_through_20(&mut processor, false),
+        "bit 0 tested behind it",
+    );
     holds(&rt, has_no_end(&mut processor), "a chain without an end");
     Ok(())
 }

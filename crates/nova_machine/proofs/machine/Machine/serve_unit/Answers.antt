@@ -188,7 +188,7 @@ answer-requires-in-Matched-clause-room g c =
 pub returns-in-Some-clause-watches : goal.returns-in-Some-clause-watches
 returns-in-Some-clause-watches g c =
     let did : DidOnLine c.args.keys.now c.args.unit c.ask-want.result c.in-Some.made c.args.watch.now c.answer_on_line.new.watch c.args.self.now c.ask-want.new.self c.on_line.new.self c.answer_on_line.new.self
-        c.answer_on_line.result = record {
+    c.answer_on_line.result = record {
       asks = c.ask-want.ensures.machine;
       only = c.in-Some.ensures.machine;
       ports = c.in-Some.ensures.lines.ports;
@@ -204,7 +204,7 @@ returns-in-Some-clause-watches g c =
 pub returns-in-Some-clause-cause : goal.returns-in-Some-clause-cause
 returns-in-Some-clause-cause g c =
     let did : DidOnLine c.args.keys.now c.args.unit c.ask-want.result c.in-Some.made c.args.watch.now c.answer_on_line.new.watch c.args.self.now c.ask-want.new.self c.on_line.new.self c.answer_on_line.new.self
-        c.answer_on_line.result = record {
+    c.answer_on_line.result = record {
       asks = c.ask-want.ensures.machine;
       only = c.in-Some.ensures.machine;
       ports = c.in-Some.ensures.lines.ports;
@@ -325,7 +325,7 @@ returns-in-Stops-clause-watches g c =
 pub returns-in-Some-clause-steps : goal.returns-in-Some-clause-steps
 returns-in-Some-clause-steps g c =
     let did : DidOnLine c.args.keys.now c.args.unit c.ask-want.result c.in-Some.made c.args.watch.now c.answer_on_line.new.watch c.args.self.now c.ask-want.new.self c.on_line.new.self c.answer_on_line.new.self
-        c.answer_on_line.result = record {
+    c.answer_on_line.result = record {
       asks = c.ask-want.ensures.machine;
       only = c.in-Some.ensures.machine;
       ports = c.in-Some.ensures.lines.ports;
