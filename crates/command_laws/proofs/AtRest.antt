@@ -1,6 +1,6 @@
 -- A session at rest can be saved, and what is saved of it fits the fields of a state file.
 use Rattle.std.proofs.Common.{◌≡◌, ◌≢◌, ℕ, zero, suc, ◌<◌, ◌≤◌, ◌^◌, List, [], ◌∷◌, ◌++◌, length, map, Option, Some, None, IfSome, sym, subst, arith}
-use Rattle.std.specs.Prelude.{get_or, unwrap_or}
+use Rattle.std.specs.Prelude.{get_or, unwrap_or, slice_get}
 use Rattle.std.specs.Str.{bytes_eq}
 use Rattle.std.specs.List.{AllByRecursion}
 use Rattle.std.proofs.lemmas.Bool.{cond_both}
@@ -14,7 +14,7 @@ use Rattle.expect_actions.specs.declared.breaks.Break.{Break}
 use Rattle.expect_actions.specs.declared.expects.Expect.{Expect}
 use Rattle.expect_actions.specs.Sends.{Send, InTime}
 use Rattle.expect_actions.specs.Watch.{WatchState}
-use Rattle.nova_machine.specs.Machine.{MachineState}
+use Rattle.nova_machine.specs.Machine.{MachineState, place_of as line_place}
 use Rattle.nova_machine.specs.Seen.{erased, attached_in}
 use Rattle.nova_machine.specs.Valid.{IsByteName, HasByteName, ValidBreak, ValidExpect, ValidWatch, IsPort, ValidLine}
 use Rattle.saved_files.specs.declared.taking.UnitPlace.{UnitPlace}
@@ -23,7 +23,7 @@ use Rattle.state_text.specs.Laws.{FileHasWidths, BreakHasWidths, ExpectHasWidths
 use Rattle.saved_session.specs.Valid.{BreaksFit, ExpectsFit, WatchFits, IsMachine}
 use Rattle.state_transfer.specs.PutBack.{IsIdleLine}
 use Rattle.saved_files.specs.Taking.{unit_at, file_places, saved_file, saved_at, saved_files}
-use Rattle.state_transfer.specs.Session.{saved_machine, port_number, saved_port}
+use Rattle.state_transfer.specs.Session.{saved_machine, port_number, port_of, saved_port}
 use Rattle.saved_session.specs.SavedWatch.{saved_break, saved_expect, saved_send, saved_watch}
 use Rattle.state_laws.proofs.SavedLemmas.{machine-valid}
 use Rattle.state_laws.proofs.SavedFileLemmas.{file-widths, few-saved}
@@ -151,14 +151,18 @@ watch-fits w is =
 
 -- ---- the lines
 
-port-low : (lines : List (LineOf Peer)) → AllByRecursion ValidLine lines → saved_port lines < 2 ^ 16
-unfolding saved_port
-port-low [] all = omega arith
-port-low (line ∷ lines) all = by line.port all.0.port
+low-at : (place : ℕ) (lines : List (LineOf Peer)) → AllByRecursion ValidLine lines → port_of (slice_get lines place) < 2 ^ 16
+low-at place [] all = omega arith
+low-at zero (line ∷ lines) all = by line.port all.0.port
   where
     by : (port : Option ℕ) → IfSome port IsPort → port_number port < 2 ^ 16
     by None is = omega arith
     by (Some port) is = is.1
+low-at (suc place) (line ∷ lines) all = low-at place lines all.1
+
+port-low : (lines : List (LineOf Peer)) → AllByRecursion ValidLine lines → saved_port lines < 2 ^ 16
+unfolding saved_port
+port-low lines all = low-at (line_place 0) lines all
 
 idle-line : (line : LineOf Peer) → ValidLine line → HasNobody line → IsIdleLine line
 idle-line line is none = record { nobody = is.nothing none; port = not-0 line.port is.port }
@@ -210,7 +214,7 @@ savable s files rest all =
         copy = rest.copy;
         written = rest.written;
         watch = rest.watch;
-        line = is.line;
+        others = is.ports.others;
         idle = idle-lines s.lines valid.lines rest.nobody;
       };
       fits = record {

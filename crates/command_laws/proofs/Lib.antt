@@ -13,3 +13,4 @@ pub mod ValidWatch
 pub mod WholeSays
 pub mod SetLemmas
 pub mod ScriptLemmas
+pub mod OwnLines

@@ -1,5 +1,5 @@
 -- What SAVE leaves of a session, and what RESTORE puts in place of the one that was saved.
-use Rattle.std.proofs.Common.{◌≡◌, ℕ, zero, suc, Bool, true, false, List, [], ◌∷◌, ◌++◌, length, drop, Option, Some, None, IsTrue, Result, Ok, Err, refl, ap, sym, ◌∙◌, subst, arith, if◌then◌else◌}
+use Rattle.std.proofs.Common.{◌≡◌, ℕ, zero, suc, ◌<◌, Bool, true, false, List, [], ◌∷◌, ◌++◌, length, drop, Option, Some, None, IsTrue, Result, Ok, Err, refl, ap, sym, ◌∙◌, subst, arith, if◌then◌else◌}
 use Rattle.std.specs.Prelude.{nat_lt, nat_le, ◌&&◌, is_some, IsSome, unwrap_or}
 use Rattle.std.specs.Str.{bytes_eq}
 use Rattle.std.proofs.lemmas.List.{length-map}
@@ -48,6 +48,7 @@ use Rattle.state_commands.specs.StateEffects.{unit_claim, flushed_with, save_by,
 use Rattle.command_session.specs.Occupied.{is_occupied}
 use Rattle.scp_commands.specs.Effect.{effect}
 use Rattle.command_laws.proofs.AtRest.{savable}
+use Rattle.command_laws.proofs.OwnLines.{two-lines}
 use Rattle.command_laws.proofs.OwnTexts.{valid-widths, read-own}
 use Rattle.command_laws.specs.Resumption.{done_with, left_by_save, ahead_behind, continued, saved_among, HoldsSaved, IsSavable, IsRestored, RestorePutsBack}
 
@@ -105,11 +106,12 @@ heard : (a : LineAnswer) (ahead : Ahead) (used : ℕ) (v : State) (live : Live) 
 heard Failed ahead used v live done = absurd (cc)
 heard other ahead used v live done = refl
 
-ported : (port : ℕ) (lines : List (LineOf Peer)) (used : ℕ) (v : State) (live : Live) → length lines ≡ 1 → (ported_back (wants_port port lines) used v live).answer ≡ Ok Go
+ported : (port : ℕ) (lines : List (LineOf Peer)) (used : ℕ) (v : State) (live : Live) → 1 < length lines → (ported_back (wants_port port lines) used v live).answer ≡ Ok Go
     → ported_back (wants_port port lines) used v live ≡ done_with used (record (put_back v live) { ahead = ahead_behind port live.ahead })
-ported zero lines used v live one done = refl
-ported (suc port) [] used v live one done = absurd (omega (arith, one))
-ported (suc port) (line ∷ others) used v live one done = heard (listening live.ahead).answer (listening live.ahead).ahead used v live done
+ported zero lines used v live more done = refl
+ported (suc port) [] used v live more done = absurd (omega (arith, more))
+ported (suc port) (console ∷ []) used v live more done = absurd (omega (arith, more))
+ported (suc port) (console ∷ line ∷ others) used v live more done = heard (listening live.ahead).answer (listening live.ahead).ahead used v live done
 
 -- the first file of a session in which the disk has one is the disk's
 first-file : (files : List NamedBytes) (attached : List (Option Attachment)) (a : Attachment) → attachment_at attached disk_unit ≡ Some a
@@ -155,7 +157,7 @@ kept-there fails force a then_bytes files none =
     let f = saved_file (place_of 0 0) a then_bytes in
     mode-there fails a.name files force f (bytes_of files a.name) (is_only_read f) none
 
-module _ (live s : Live) (then_files : List NamedBytes) (name : List ℕ) (holds : HoldsSaved live.files then_files name s) (same : live.files ≡ s.files) (line : length live.lines ≡ 1) where
+module _ (live s : Live) (then_files : List NamedBytes) (name : List ℕ) (holds : HoldsSaved live.files then_files name s) (same : live.files ≡ s.files) (many : length live.lines ≡ length s.lines) where
   abbrev what : State
   what = saved_among then_files s
 
@@ -164,6 +166,12 @@ module _ (live s : Live) (then_files : List NamedBytes) (name : List ℕ) (holds
 
   twelve : length (attached_in s.machine) ≡ file_units
   twelve = length-map s.machine.slots _ ∙ can.can.places
+
+  -- the console line is there, and line 0
+  more : 1 < length live.lines
+  more =
+      let two : length live.lines ≡ 2 = many ∙ holds.rest.session.count ∙ two-lines s.machine.units holds.rest.session.machine.units in
+      omega (arith, two)
 
   -- what is attached does not depend on the bytes of files
   among : put_back what live ≡ put_back (saved s) live
@@ -177,12 +185,12 @@ module _ (live s : Live) (then_files : List NamedBytes) (name : List ℕ) (holds
 
   in-place : record (put_back what live) { ahead = ahead_behind (saved_port s.lines) live.ahead } ≡ continued s live
   in-place =
-      ap (λ (l : Live). record l { ahead = ahead_behind (saved_port s.lines) live.ahead }) (among ∙ saving-puts-back.back s live can.can same (line ∙ sym can.can.line))
+      ap (λ (l : Live). record l { ahead = ahead_behind (saved_port s.lines) live.ahead }) (among ∙ saving-puts-back.back s live can.can same many)
       ∙ ap (λ (files : List NamedBytes). record s { keys = live.keys; files = files; ahead = ahead_behind (saved_port s.lines) live.ahead }) (sym same)
 
   by-files : (o : Option (UnitName × FileRefusal)) (used : ℕ) → (restored_by o used what live).answer ≡ Ok Go → restored_by o used what live ≡ done_with used (continued s live)
   by-files (Some refusal) used done = absurd (cc)
-  by-files None used done = ported what.port live.lines used what live line done ∙ ap (done_with used) in-place
+  by-files None used done = ported what.port live.lines used what live more done ∙ ap (done_with used) in-place
 
   abbrev Puts : Reply → ℕ → Type 0
   Puts reply used = reply.answer ≡ Ok Go → reply ≡ done_with used (continued s live)

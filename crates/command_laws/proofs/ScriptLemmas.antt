@@ -24,7 +24,7 @@ use Rattle.command_session.specs.declared.next.Next.TheVariants.{Go, Do, Exit}
 use Rattle.command_session.specs.Live.{Live}
 use Rattle.command_session.specs.Reply.{Answer, Reply}
 use Rattle.command_session.specs.RunEffects.{run_answer, run_failure, ran, address_fits, started, run_from, stepped, step_of}
-use Rattle.command_session.specs.LineEffects.{terminal_line, is_port, listen_answer, attach_line, attach_port_reply, with_port, disconnect_reply}
+use Rattle.command_session.specs.LineEffects.{terminal_place, terminal_line, is_port, listen_answer, attach_line, attach_port_reply, with_port, disconnect_reply}
 use Rattle.command_session.specs.FileEffects.{lacks_unit, mode_of, attach_answer, attach_reply}
 use Rattle.command_session.specs.FileEffects.{detach_all_reply, emptied_all, kept_answer}
 use Rattle.command_session.specs.ExitEffects.{exit_reply}
@@ -82,14 +82,14 @@ listen_answer-none : (answer : LineAnswer) → NoScript (listen_answer answer)
 listen_answer-none Failed = tt
 listen_answer-none answer = tt
 
-attach_line-none : (line : Option (LineOf Peer)) (port : ℕ) (live : Live) → NoScript (attach_line line port live).answer
-attach_line-none None port live = tt
-attach_line-none (Some line) port live =
+attach_line-none : (line : Option (LineOf Peer)) (place port : ℕ) (live : Live) → NoScript (attach_line line place port live).answer
+attach_line-none None place port live = tt
+attach_line-none (Some line) place port live =
     none-if (is_some line.port) _ _ tt (none-if (is_port port) _ _ (listen_answer-none (listening live.ahead).answer) tt)
 
 pub attach_port-none : (live : Live) (port : ℕ) → NoScript (attach_port_reply live port).answer
 unfolding attach_port_reply
-attach_port-none live port = attach_line-none (terminal_line live.lines) port live
+attach_port-none live port = attach_line-none (terminal_line live.lines) terminal_place port live
 
 with_port-none : (line : Option (LineOf Peer)) (reply : Reply) (live : Live) → NoScript reply.answer → NoScript (with_port line reply live).answer
 with_port-none None reply live none = tt

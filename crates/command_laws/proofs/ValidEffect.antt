@@ -2,6 +2,7 @@
 use Rattle.std.proofs.Common.{◌≡◌, ◌≢◌, inl, inr, ℕ, zero, suc, ◌+◌, ◌^◌, ◌<◌, ◌≤◌, ◌==◌, ◌&&◌, not, nat_le, nat_lt, min, unwrap_or, Bool, true, false, List, [], ◌∷◌, length, drop, get_or, map, Option, Some, None, IfSome, option_map, Result, Ok, Err, if◌then◌else◌, refl, sym, ap, subst, ◌∙◌, arith, is_none, is_some}
 use Rattle.std.proofs.lemmas.Bool.{and_parts, leb-true, ltb-true}
 use Rattle.std.proofs.lemmas.List.{length-map}
+use Rattle.std.proofs.lemmas.Option.{same_Some}
 use Rattle.observations.specs.Observations.{Prints, map_made}
 use Rattle.observations.proofs.MadeLemmas.{stands-either, stands-mapped}
 use Rattle.file_traits.specs.Lists.{NamedBytes, bytes_of}
@@ -37,7 +38,7 @@ use Rattle.machine_laws.proofs.ValidBytes.{AreFiles, files-found}
 use Rattle.state_text.specs.declared.fault.StateFault.{StateFault}
 use Rattle.state_transfer.specs.Listening.{wants_port}
 use Rattle.saved_session.specs.Parts.{State}
-use Rattle.state_transfer.specs.PutBack.{machine_from, lines_from, put_back}
+use Rattle.state_transfer.specs.PutBack.{machine_from, port_from, lines_from, put_back}
 use Rattle.state_text.specs.Reading.{reading}
 use Rattle.saved_files.specs.Putting.{FileRefusal, with_all, at_unit}
 use Rattle.saved_files.specs.Taking.{first_unsaved, disk_flushed, files_flushed, copy_flushed}
@@ -70,7 +71,11 @@ use Rattle.command_session.specs.FileEffects.{first_place, lacks_unit, mode_of, 
 use Rattle.command_session.specs.FileEffects.{filed_in, emptied_all, left_by, unported_by, kept_answer, emptied_reply, detach_all_reply, detach_one_or_all}
 use Rattle.host_lines.specs.Traffic.{Answer as LineAnswer, Peer, Replied, Ahead, Script, Answers, Quiet, Failed, replied, begun, listening}
 use Rattle.telnet_lines.specs.Line.{LineOf, unconnected}
-use Rattle.command_session.specs.LineEffects.{is_terminal, terminal_line, ported, closed_by, unported, hung_by, hung_up, is_port, listen_answer, listen_lines, listen_with, attach_line, attach_port_reply}
+use Rattle.command_session.specs.LineEffects.{is_terminal, terminal_place, terminal_line, ported, closed, closed_by, unported, hung, hung_by, hung_up, is_port, listen_answer, listen_lines, listen_with, attach_line, attach_port_reply}
+use Rattle.command_session.specs.LinesLeft.{AreSessionLines}
+use Rattle.command_session.proofs.PortLemmas.{session-by, session-unported, session-hung, session-ported, session-free}
+use Rattle.terminal_ports.specs.Ports.{changed_at, HaveNone}
+use Rattle.command_laws.proofs.OwnLines.{standard-many}
 use Rattle.command_session.specs.LineEffects.{with_port, detach_port_reply, disconnect_reply, show_line}
 use Rattle.plain_commands.specs.ShowEffects.{show_reply}
 use Rattle.command_session.specs.ExitEffects.{exit_reply}
@@ -154,7 +159,8 @@ changed-live live m w files is machine taken time own watch all = record {
   };
   time = subst (λ (n : ℕ). n ≤ last_time) (sym time) is.time;
   machine = own;
-  line = is.line;
+  count = is.count ∙ standard-many live.machine.units m.units is.machine.units own.units;
+  ports = is.ports;
 }
 
 machine-live : (live : Live) (m : MachineState) → ValidLive live → ValidMachine m → LeavesRest live.machine m → m.aside ≡ live.machine.aside → ValidLive (with_machine live m)
@@ -182,8 +188,8 @@ flushed-machine m is = record {
 -- ---- replies
 
 -- with other lines
-lined-live : (live : Live) (lines : List (LineOf Peer)) → ValidLive live → AllByRecursion ValidLine lines → length lines ≡ length live.lines → ValidLive (record live { lines = lines })
-lined-live live lines is all count = record {
+lined-live : (live : Live) (lines : List (LineOf Peer)) → ValidLive live → AllByRecursion ValidLine lines → length lines ≡ length live.lines → AreSessionLines lines → ValidLive (record live { lines = lines })
+lined-live live lines is all count ports = record {
   valid = record {
     machine = is.valid.machine;
     watch = is.valid.watch;
@@ -196,7 +202,8 @@ lined-live live lines is all count = record {
   };
   time = is.time;
   machine = is.machine;
-  line = count ∙ is.line;
+  count = count ∙ is.count;
+  ports = ports;
 }
 
 -- and with what is to come on them
@@ -214,16 +221,28 @@ ahead-live live ahead is valid = record {
   };
   time = is.time;
   machine = is.machine;
-  line = is.line;
+  count = is.count;
+  ports = is.ports;
 }
 
 -- a line to which nobody is connected
 free-valid : (port : Option ℕ) → IfSome port IsPort → ValidLine (unconnected port)
 free-valid port is = record { port = is; nothing = λ none. refl; keys = tt; output = tt; few_keys = omega arith; few_bytes = omega arith }
 
-valid-ported : (port : Option ℕ) (lines : List (LineOf Peer)) → IfSome port IsPort → AllByRecursion ValidLine lines → AllByRecursion ValidLine (ported port lines)
-valid-ported port [] is all = tt
-valid-ported port (line ∷ lines) is all = (free-valid port is, all.1)
+-- the line at a place has changed
+valid-changed : (place : ℕ) (change : LineOf Peer → LineOf Peer) (lines : List (LineOf Peer)) → ((line : LineOf Peer) → ValidLine line → ValidLine (change line)) → AllByRecursion ValidLine lines
+    → AllByRecursion ValidLine (changed_at place change lines)
+valid-changed place change [] changes all = tt
+valid-changed zero change (line ∷ lines) changes all = (changes line all.0, all.1)
+valid-changed (suc place) change (line ∷ lines) changes all = (all.0, valid-changed place change lines changes all.1)
+
+many-changed : (place : ℕ) (change : LineOf Peer → LineOf Peer) (lines : List (LineOf Peer)) → length (changed_at place change lines) ≡ length lines
+many-changed place change [] = refl
+many-changed zero change (line ∷ lines) = refl
+many-changed (suc place) change (line ∷ lines) = ap suc (many-changed place change lines)
+
+valid-ported : (port : Option ℕ) (lines : List (LineOf Peer)) → IfSome port IsPort → AllByRecursion ValidLine lines → AllByRecursion ValidLine (ported terminal_place port lines)
+valid-ported port lines is all = valid-changed terminal_place (λ (line : LineOf Peer). unconnected port) lines (λ line valid. free-valid port is) all
 
 closed-valid : (port : Option ℕ) (line : LineOf Peer) → ValidLine line → ValidLine (closed_by port line)
 closed-valid None line valid = valid
@@ -233,26 +252,21 @@ hung-valid : (port : Option ℕ) (line : LineOf Peer) → IfSome port IsPort →
 hung-valid None line is valid = valid
 hung-valid (Some port) line is valid = free-valid (Some port) is
 
-valid-unported : (lines : List (LineOf Peer)) → AllByRecursion ValidLine lines → AllByRecursion ValidLine (unported lines)
-valid-unported [] all = tt
-valid-unported (line ∷ lines) all = (closed-valid line.port line all.0, all.1)
+valid-unported : (lines : List (LineOf Peer)) → AllByRecursion ValidLine lines → AllByRecursion ValidLine (unported terminal_place lines)
+valid-unported lines all = valid-changed terminal_place closed lines (λ line valid. closed-valid line.port line valid) all
 
-valid-hung : (lines : List (LineOf Peer)) → AllByRecursion ValidLine lines → AllByRecursion ValidLine (hung_up lines)
-valid-hung [] all = tt
-valid-hung (line ∷ lines) all = (hung-valid line.port line all.0.port all.0, all.1)
+valid-hung : (lines : List (LineOf Peer)) → AllByRecursion ValidLine lines → AllByRecursion ValidLine (hung_up terminal_place lines)
+valid-hung lines all = valid-changed terminal_place hung lines (λ line valid. hung-valid line.port line valid.port valid) all
 
 -- there are as many lines as before
-many-ported : (port : Option ℕ) (lines : List (LineOf Peer)) → length (ported port lines) ≡ length lines
-many-ported port [] = refl
-many-ported port (line ∷ lines) = refl
+many-ported : (port : Option ℕ) (lines : List (LineOf Peer)) → length (ported terminal_place port lines) ≡ length lines
+many-ported port lines = many-changed terminal_place (λ (line : LineOf Peer). unconnected port) lines
 
-many-unported : (lines : List (LineOf Peer)) → length (unported lines) ≡ length lines
-many-unported [] = refl
-many-unported (line ∷ lines) = refl
+many-unported : (lines : List (LineOf Peer)) → length (unported terminal_place lines) ≡ length lines
+many-unported lines = many-changed terminal_place closed lines
 
-many-hung : (lines : List (LineOf Peer)) → length (hung_up lines) ≡ length lines
-many-hung [] = refl
-many-hung (line ∷ lines) = refl
+many-hung : (lines : List (LineOf Peer)) → length (hung_up terminal_place lines) ≡ length lines
+many-hung lines = many-changed terminal_place hung lines
 
 valid-listening : (ahead : Ahead) → ValidAhead ahead → ValidAhead (listening ahead).ahead
 valid-listening (Script t) valid = by (t.fails 0)
@@ -341,7 +355,8 @@ stands-ran notes step count live is =
       valid = valid;
       time = time;
       machine = program-machine s.machine t.machine is.machine shape.kinds shape.slots shape.aside shape.own;
-      line = shape.count ∙ is.line;
+      count = shape.count ∙ is.count ∙ standard-many s.machine.units t.machine.units is.machine.units (shape.kinds ∙ is.machine.units);
+      ports = session-by s.lines t.lines shape.ports is.ports;
     }
 
 -- a run from another machine with the same files
@@ -498,14 +513,18 @@ port-low port is =
     let most = leb-true port 65535 both.1 in
     (leb-true 1 port both.0, omega (arith, most))
 
+not-zero : (port : ℕ) → is_port port ≡ true → Some port ≢ Some 0
+not-zero port is none =
+    let low : is_port 0 ≡ true = subst (λ (n : ℕ). is_port n ≡ true) (same_Some port 0 none) is in absurd (cc)
+
 -- a port is listened on, or was not
-stands-listen_with : (said : Replied) (port : ℕ) (live : Live) → is_port port ≡ true → ValidAhead said.ahead → ValidLive live → Stands live (listen_with said port live)
+stands-listen_with : (said : Replied) (port : ℕ) (live : Live) → is_port port ≡ true → ValidAhead said.ahead → ValidLive live → Stands live (listen_with said terminal_place port live)
 stands-listen_with said port live low valid is = by said.answer
   where
     by : (answer : LineAnswer) → Stands live (record {
       made = [];
       answer = listen_answer answer;
-      after = standing 0 (record live { lines = listen_lines answer port live.lines; ahead = said.ahead });
+      after = standing 0 (record live { lines = listen_lines answer terminal_place port live.lines; ahead = said.ahead });
     })
     by Failed = record {
       valid = record { after = ahead-live live said.ahead is valid; made = λ at h. absurd h; script = tt };
@@ -514,20 +533,21 @@ stands-listen_with said port live low valid is = by said.answer
     }
     by other = record {
       valid = record {
-        after = lined-live (record live { ahead = said.ahead }) (ported (Some port) live.lines) (ahead-live live said.ahead is valid)
-            (valid-ported (Some port) live.lines (port-low port low) is.valid.lines) (many-ported (Some port) live.lines);
+        after = lined-live (record live { ahead = said.ahead }) (ported terminal_place (Some port) live.lines) (ahead-live live said.ahead is valid)
+            (valid-ported (Some port) live.lines (port-low port low) is.valid.lines) (many-ported (Some port) live.lines)
+            (session-ported (Some port) live.lines (not-zero port low) is.ports);
         made = λ at h. absurd h;
         script = tt;
       };
       holds = λ is. is;
-      stays = copy-same live (record live { lines = ported (Some port) live.lines; ahead = said.ahead }) refl refl;
+      stays = copy-same live (record live { lines = ported terminal_place (Some port) live.lines; ahead = said.ahead }) refl refl;
     }
 
 stands-attach_port : (live : Live) (port : ℕ) → ValidLive live → Stands live (attach_port_reply live port)
 unfolding attach_port_reply
 stands-attach_port live port is = by (terminal_line live.lines)
   where
-    by : (line : Option (LineOf Peer)) → Stands live (attach_line line port live)
+    by : (line : Option (LineOf Peer)) → Stands live (attach_line line terminal_place port live)
     by None = stands-refused _ live is
     by (Some line) =
         stands-if (is_some line.port) live _ _ (λ _. stands-refused _ live is)
@@ -535,20 +555,22 @@ stands-attach_port live port is = by (terminal_line live.lines)
         (λ low. stands-listen_with (listening live.ahead) port live low (valid-listening live.ahead is.valid.ahead) is)
         (λ _. stands-refused _ live is))
 
-stands-with_port : (line : Option (LineOf Peer)) (lines : List (LineOf Peer)) (live : Live) → AllByRecursion ValidLine lines → length lines ≡ length live.lines → ValidLive live
+stands-with_port : (line : Option (LineOf Peer)) (lines : List (LineOf Peer)) (live : Live) → AllByRecursion ValidLine lines → length lines ≡ length live.lines → AreSessionLines lines → ValidLive live
     → Stands live (with_port line (goes (record live { lines = lines })) live)
-stands-with_port None lines live all count is = stands-refused _ live is
-stands-with_port (Some line) lines live all count is =
+stands-with_port None lines live all count ports is = stands-refused _ live is
+stands-with_port (Some line) lines live all count ports is =
     stands-if (is_none line.port) live _ _ (λ _. stands-refused _ live is)
-    (λ _. stands-goes live (record live { lines = lines }) (lined-live live lines is all count) refl refl)
+    (λ _. stands-goes live (record live { lines = lines }) (lined-live live lines is all count ports) refl refl)
 
 stands-detach_port : (live : Live) → ValidLive live → Stands live (detach_port_reply live)
 unfolding detach_port_reply
-stands-detach_port live is = stands-with_port (terminal_line live.lines) (unported live.lines) live (valid-unported live.lines is.valid.lines) (many-unported live.lines) is
+stands-detach_port live is = stands-with_port (terminal_line live.lines) (unported terminal_place live.lines) live (valid-unported live.lines is.valid.lines) (many-unported live.lines)
+    (session-unported terminal_place live.lines is.ports) is
 
 stands-disconnect : (live : Live) → ValidLive live → Stands live (disconnect_reply live)
 unfolding disconnect_reply
-stands-disconnect live is = stands-with_port (terminal_line live.lines) (hung_up live.lines) live (valid-hung live.lines is.valid.lines) (many-hung live.lines) is
+stands-disconnect live is = stands-with_port (terminal_line live.lines) (hung_up terminal_place live.lines) live (valid-hung live.lines is.valid.lines) (many-hung live.lines)
+    (session-hung terminal_place live.lines is.ports) is
 
 -- all units lose their files, and then that comes
 filed-live : (live : Live) → ValidLive live → IsFiled (filed_in live)
@@ -571,10 +593,10 @@ stands-emptied next notes live gives is = by-keeper e.kept refl
         record {
           valid = record {
             after =
-                lined-live (left_by None e.left live) (unported live.lines)
+                lined-live (left_by None e.left live) (unported terminal_place live.lines)
                 (changed-live live m live.watch e.left.files is (filed-valid live.machine e.left.attached e.left.disk is.valid.machine filed.places filed.names filed.disk) refl refl
                 (program-filed live.machine m e.left.attached is.machine refl refl refl refl) is.valid.watch filed.files)
-                (valid-unported live.lines is.valid.lines) (many-unported live.lines);
+                (valid-unported live.lines is.valid.lines) (many-unported live.lines) (session-unported terminal_place live.lines is.ports);
             made = λ at h. absurd h;
             script = gives;
           };
@@ -829,8 +851,22 @@ byte-at (b ∷ bytes) (suc i) all = byte-at bytes i all.1
 
 -- what is read of bytes is valid, and so is a session into which it is put back
 many-from : (port : ℕ) (lines : List (LineOf Peer)) → length (lines_from port lines) ≡ length lines
-many-from port [] = refl
-many-from port (line ∷ lines) = refl
+many-from port lines =
+    many-changed terminal_place (λ (line : LineOf Peer). unconnected (port_from port)) (map (λ (line : LineOf Peer). unconnected None) lines)
+    ∙ length-map lines (λ (line : LineOf Peer). unconnected None)
+
+none-free : (lines : List (LineOf Peer)) → HaveNone (map {B = LineOf Peer} (λ (line : LineOf Peer). unconnected None) lines)
+none-free [] = tt
+none-free (line ∷ lines) = (refl, none-free lines)
+
+some-from : (port : ℕ) → port_from port ≢ Some 0
+some-from zero none = absurd (cc)
+some-from (suc port) none = absurd (omega (arith, same_Some (suc port) 0 none))
+
+session-from : (port : ℕ) (lines : List (LineOf Peer)) → AreSessionLines (lines_from port lines)
+session-from port lines =
+    session-ported (port_from port) (map (λ (line : LineOf Peer). unconnected None) lines) (some-from port)
+    (session-free (map (λ (line : LineOf Peer). unconnected None) lines) (none-free lines))
 
 put-back : (bytes : List ℕ) (s : State) (live : Live) → AreBytes bytes → reading bytes ≡ Ok s → ValidLive live → ValidLive (put_back s live)
 unfolding machine_from
@@ -845,7 +881,10 @@ put-back bytes s live all read is =
         aside = refl;
         lines = refl;
       };
-      line = many-from s.port live.lines ∙ is.line;
+      count =
+          many-from s.port live.lines ∙ is.count
+          ∙ standard-many live.machine.units (put_back s live).machine.units is.machine.units (put-back-is-valid.units s live valid);
+      ports = session-from s.port live.lines;
     }
 
 -- with what is to come on lines

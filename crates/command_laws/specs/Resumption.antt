@@ -47,9 +47,9 @@ abbrev pub ahead_behind : ℕ → Ahead → Ahead
 ahead_behind zero ahead = ahead
 ahead_behind (suc port) ahead = (listening ahead).ahead
 
--- A saved session goes on in a present one: the machine with what is attached to it, the watch tables and the line are
+-- A saved session goes on in a present one: the machine with what is attached to it, the watch tables and the lines are
 -- those that were saved. The keys and the files are the present ones, and so is what is still to come on lines, less the
--- listening on the port, where the line has one.
+-- listening on the port, where line 0 has one.
 abbrev pub continued : Live → Live → Live
 continued s present = record present {
   machine = s.machine;
@@ -101,13 +101,13 @@ pub record RestorePutsBack : Type 0 where
   -- a session at rest can be saved, and what is saved of it fits
   pub savable : (s : Live) (files : List NamedBytes) → IsAtRest s → HaveLengths files → IsSavable files s
   -- a RESTORE that is done, of the text of any session that was saved, puts that session in place, where the files are those
-  -- of that session and the machine has its one line
+  -- of that session and the machine has as many lines
   pub restored : (limit : ℕ) (notes : List CommandNote) (live s : Live) (force : Bool) (name : List ℕ) (then_files : List NamedBytes) (used : ℕ)
-      → IsRestored limit notes live force name used → HoldsSaved live.files then_files name s → live.files ≡ s.files → length live.lines ≡ 1
+      → IsRestored limit notes live force name used → HoldsSaved live.files then_files name s → live.files ≡ s.files → length live.lines ≡ length s.lines
       → effect limit notes live (Restore force name) ≡ done_with used (continued s live)
   -- and the disk alone has changed the disk's file in it: that has what the disk holds
   pub alone : (limit : ℕ) (notes : List CommandNote) (live s : Live) (force : Bool) (name : List ℕ) (then_files : List NamedBytes) (used : ℕ)
-      → IsRestored limit notes live force name used → HoldsSaved live.files then_files name s → live.files ≡ s.files → length live.lines ≡ 1
+      → IsRestored limit notes live force name used → HoldsSaved live.files then_files name s → live.files ≡ s.files → length live.lines ≡ length s.lines
       → IsTrue (disk_alone live (continued s live))
   -- it is done only where nothing is attached and no line has a port
   pub unoccupied : (limit : ℕ) (notes : List CommandNote) (live : Live) (force : Bool) (name : List ℕ) (used : ℕ) → IsRestored limit notes live force name used

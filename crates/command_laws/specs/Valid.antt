@@ -3,7 +3,7 @@ use Rattle.std.specs.Prelude.{◌≡◌, ◌≢◌, ◌≤◌, ℕ, Bool, true, 
 use Rattle.observations.specs.Observations.{StandsAt}
 use Rattle.nova_machine.specs.Comes.{Output}
 use Rattle.nova_machine.specs.Run.{last_time}
-use Rattle.nova_machine.specs.Machine.{MachineState}
+use Rattle.nova_machine.specs.Machine.{MachineState, lines_for}
 use Rattle.nova_machine.specs.Seen.{unnumbered}
 use Rattle.nova_machine.specs.Valid.{AreBytes, Valid, DiskIsItsFile, LeavesDiskFile}
 use Rattle.file_commands.specs.Notes.{CommandNote}
@@ -20,6 +20,7 @@ use Rattle.command_session.specs.Reply.{Answer, Reply}
 use Rattle.scp_commands.specs.Effect.{effect}
 use Rattle.command_session.specs.Doing.{Does}
 use Rattle.command_session.specs.Remains.{Remains}
+use Rattle.command_session.specs.LinesLeft.{AreSessionLines}
 
 -- a machine of this program, as it is seen: it has the standard units, and no numbers of files, nothing kept aside and no lines of
 -- its own
@@ -30,12 +31,13 @@ pub record IsProgramMachine (m : MachineState) : Type 0 where
   pub lines : m.lines ≡ []
 
 -- A state that commands work on: all is in range, no time comes past the end of time, and it has a machine of this program,
--- with one line.
+-- with as many lines as its units say, no two of which have one port.
 pub record ValidLive (live : Live) : Type 0 where
   pub valid : Valid live
   pub time : live.machine.time ≤ last_time
   pub machine : IsProgramMachine live.machine
-  pub line : length live.lines ≡ 1
+  pub count : length live.lines ≡ length (lines_for live.machine.units)
+  pub ports : AreSessionLines live.lines
 
 -- the script that a DO has read is of bytes
 abbrev pub GivesBytes : Answer → Type 0

@@ -1,6 +1,6 @@
 -- What commands leave of the ports and the connections of the outside.
-use Rattle.std.proofs.Common.{◌≡◌, ◌≢◌, ◌⊎◌, inl, inr, ◌∙◌, ap, sym, refl, subst, arith, ℕ, ◌≤◌, ◌==◌, Bool, true, false, true≢false, IsTrue, List, [], ◌∷◌, length, suc, map, slice_get, slice_set, Option, Some, None, IsSome, IfSome, is_some, if◌then◌else◌, Ok, Err}
-use Rattle.std.proofs.lemmas.Option.{same_Some}
+use Rattle.std.proofs.Common.{◌≡◌, ◌≢◌, ◌⊎◌, inl, inr, ◌∙◌, ap, sym, refl, subst, arith, ℕ, ◌≤◌, ◌==◌, Bool, true, false, true≢false, IsTrue, List, [], ◌∷◌, length, zero, suc, map, slice_get, slice_set, Option, Some, None, IsSome, IfSome, is_some, option_map, if◌then◌else◌, Ok, Err}
+use Rattle.std.proofs.lemmas.Option.{same_Some, slice_get-map}
 use Rattle.std.proofs.lemmas.Bool.Decides.{eqb_tells}
 use Rattle.fault_counts.specs.Faults.{raised}
 use Rattle.host_lines.specs.Traffic.{Peer}
@@ -12,12 +12,15 @@ use Rattle.telnet_lines.specs.Joined.{seen_line, HasCaller, KeepsParties}
 use Rattle.telnet_lines.specs.Many.{AreApart}
 use Rattle.telnet_lines.proofs.Several.{stand_apart}
 use Rattle.telnet_lines.proofs.Apart.{is_or_not, same_kind, still_has, recorded_after}
+use Rattle.terminal_ports.specs.Ports.{changed_at, HasOther, OthersHaveNone, HavePortsApart, HaveNone, OnlyOneHas}
+use Rattle.terminal_ports.specs.Listening.{IsListening}
+use Rattle.terminal_ports.proofs.PortsApart.{changed-set, changed-none, changed-same, set-same, apart-by, none-given, given-apart, only-by, only-set, only-closed}
 use Rattle.host_lines.specs.declared.lines.ListenFault.{ListenFault}
 use Rattle.host_lines.specs.declared.lines.ListenFault.TheVariants as listen
-use Rattle.nova_machine.specs.LineChanges.{ports_of, HasConnection, AreLinesTold, LinesGoOn}
+use Rattle.nova_machine.specs.LineChanges.{ports_of, HaveNoPort, HasConnection, AreLinesTold, LinesGoOn}
 use Rattle.nova_machine.proofs.LineSteps.{lines-stay, first-same, first-through, hears-same, hears-equal, hears-then, no-ports-same}
-use Rattle.command_session.specs.LineEffects.{closed, closed_by, hung, hung_by, unported, hung_up}
-use Rattle.command_session.specs.LinesLeft.{HasPort, AreListened, LinesLeft, GivesUp, SeenAs, without_any, Listened}
+use Rattle.command_session.specs.LineEffects.{terminal_place, ported, closed, closed_by, hung, hung_by, unported, hung_up}
+use Rattle.command_session.specs.LinesLeft.{HasPort, AreListened, AreSessionLines, LinesLeft, GivesUp, SeenAs, without_any}
 
 -- ---- ports
 
@@ -30,6 +33,13 @@ has-port-or-not port (line ∷ lines) = elim (is_or_not line.port port) [
     | inr none ↦ inr (λ h. elim h [ inl own ↦ other own | inr has ↦ none has ])
   ]
 ]
+
+-- a line that keeps its port
+same-ports : {P : Type 0} (lines : List (LineOf P)) (place : ℕ) (line after : LineOf P) → slice_get lines place ≡ Some line → after.port ≡ line.port → ports_of (slice_set lines place after) ≡ ports_of lines
+same-ports [] place line after at same = refl
+same-ports {P} (l ∷ lines) zero line after at same =
+    ap (λ (p : Option ℕ). p ∷ ports_of lines) (same ∙ ap (λ (x : LineOf P). x.port) (sym (same_Some l line at)))
+same-ports {P} (l ∷ lines) (suc place) line after at same = ap (λ (ps : List (Option ℕ)). l.port ∷ ps) (same-ports lines place line after at same)
 
 -- lines with the same ports
 has-port-by : (port : ℕ) (lines others : List (LineOf ℕ)) → ports_of others ≡ ports_of lines → HasPort port lines → HasPort port others
@@ -64,6 +74,118 @@ listened-by s s' (l ∷ lines) (k ∷ others) same ports all =
     let more : ports_of others ≡ ports_of lines = cc in
     (subst (λ (p : Option ℕ). IsListenedAt s' p) (sym is) (listened-at s s' same l.port all.0), listened-by s s' lines others same more all.1)
 
+-- ---- one line of several
+
+-- its own port is that of the line, once that was changed
+own-port : (port place : ℕ) (lines : List (LineOf ℕ)) (line after : LineOf ℕ) → slice_get lines place ≡ Some line → after.port ≡ Some port → HasPort port (slice_set lines place after)
+own-port port place [] line after at own = absurd (cc)
+own-port port zero (l ∷ lines) line after at own = inl own
+own-port port (suc place) (l ∷ lines) line after at own = inr (own-port port place lines line after at own)
+
+-- a port of another line stays one
+other-port : (port place : ℕ) (lines : List (LineOf ℕ)) (line after : LineOf ℕ) → slice_get lines place ≡ Some line → line.port ≢ Some port → HasPort port lines → HasPort port (slice_set lines place after)
+other-port port place [] line after at other has = absurd has
+other-port port zero (l ∷ lines) line after at other (inl own) = absurd (other (ap (λ (x : LineOf ℕ). x.port) (sym (same_Some l line at)) ∙ own))
+other-port port zero (l ∷ lines) line after at other (inr has) = inr has
+other-port port (suc place) (l ∷ lines) line after at other (inl own) = inl own
+other-port port (suc place) (l ∷ lines) line after at other (inr has) = inr (other-port port place lines line after at other has)
+
+other-connection : (conn place : ℕ) (lines : List (LineOf ℕ)) (line after : LineOf ℕ) → slice_get lines place ≡ Some line → line.connection ≢ Some conn → HasConnection conn lines
+    → HasConnection conn (slice_set lines place after)
+other-connection conn place [] line after at other has = absurd has
+other-connection conn zero (l ∷ lines) line after at other (inl own) = absurd (other (ap (λ (x : LineOf ℕ). x.connection) (sym (same_Some l line at)) ∙ own))
+other-connection conn zero (l ∷ lines) line after at other (inr has) = inr has
+other-connection conn (suc place) (l ∷ lines) line after at other (inl own) = inl own
+other-connection conn (suc place) (l ∷ lines) line after at other (inr has) = inr (other-connection conn place lines line after at other has)
+
+has-connection-or-not : (conn : ℕ) (lines : List (LineOf ℕ)) → HasConnection conn lines ⊎ (¬ HasConnection conn lines)
+has-connection-or-not conn [] = inr (λ none. none)
+has-connection-or-not conn (line ∷ lines) = elim (is_or_not line.connection conn) [
+  | inl own ↦ inl (inl own)
+  | inr other ↦ elim (has-connection-or-not conn lines) [
+    | inl has ↦ inl (inr has)
+    | inr none ↦ inr (λ h. elim h [ inl own ↦ other own | inr has ↦ none has ])
+  ]
+]
+
+same-many : (lines : List (LineOf ℕ)) (place : ℕ) (after : LineOf ℕ) → length (slice_set lines place after) ≡ length lines
+same-many [] place after = refl
+same-many (l ∷ lines) zero after = refl
+same-many (l ∷ lines) (suc place) after = let more = same-many lines place after in omega (arith, more)
+
+-- lines with the same ports
+pub session-by : {P Q : Type 0} (lines : List (LineOf P)) (others : List (LineOf Q)) → ports_of others ≡ ports_of lines → AreSessionLines lines → AreSessionLines others
+session-by lines others same own = record {
+  apart = apart-by lines others same own.apart;
+  others = only-by terminal_place lines others same own.others;
+}
+
+-- the second teletype gets a port
+pub session-listened : {P : Type 0} (lines : List (LineOf P)) (port : ℕ) → port ≢ 0 → AreSessionLines lines
+    → AreSessionLines (slice_set lines terminal_place (unconnected (Some port)))
+session-listened {P} lines port some own = record {
+  apart = given-apart terminal_place lines port some own.others own.apart;
+  others = only-set terminal_place lines (unconnected (Some port)) own.others;
+}
+
+-- a line loses its port
+session-freed : {P : Type 0} (place : ℕ) (lines : List (LineOf P)) (after : LineOf P) → after.port ≡ None → AreSessionLines lines → AreSessionLines (slice_set lines place after)
+session-freed place lines after free own = record {
+  apart = none-given place lines after free own.apart;
+  others = only-closed place terminal_place lines after free own.others;
+}
+
+-- the same of lines in which the one at a place has changed, where it is there
+changed-session : {P : Type 0} (place : ℕ) (change : LineOf P → LineOf P) (lines : List (LineOf P)) → AreSessionLines lines
+    → ((line : LineOf P) → slice_get lines place ≡ Some line → AreSessionLines (slice_set lines place (change line))) → AreSessionLines (changed_at place change lines)
+changed-session {P} place change lines own changes = by (slice_get lines place) refl
+  where
+    by : (o : Option (LineOf P)) → slice_get lines place ≡ o → AreSessionLines (changed_at place change lines)
+    by None none = subst (λ (ls : List (LineOf P)). AreSessionLines ls) (sym (changed-none change place lines none)) own
+    by (Some line) at = subst (λ (ls : List (LineOf P)). AreSessionLines ls) (changed-set change place lines line at) (changes line at)
+
+closed-free : {P : Type 0} (port : Option ℕ) (line : LineOf P) → line.port ≡ port → (closed_by port line).port ≡ None
+closed-free None line is = is
+closed-free (Some port) line is = refl
+
+hung-same : {P : Type 0} (port : Option ℕ) (line : LineOf P) → line.port ≡ port → (hung_by port line).port ≡ line.port
+hung-same None line is = refl
+hung-same (Some port) line is = sym is
+
+pub session-unported : {P : Type 0} (place : ℕ) (lines : List (LineOf P)) → AreSessionLines lines → AreSessionLines (unported place lines)
+session-unported place lines own = changed-session place closed lines own (λ line at. session-freed place lines (closed line) (closed-free line.port line refl) own)
+
+pub session-hung : {P : Type 0} (place : ℕ) (lines : List (LineOf P)) → AreSessionLines lines → AreSessionLines (hung_up place lines)
+session-hung place lines own =
+    changed-session place hung lines own (λ line at. session-by lines (slice_set lines place (hung line)) (same-ports lines place line (hung line) at (hung-same line.port line refl)) own)
+
+pub session-ported : {P : Type 0} (port : Option ℕ) (lines : List (LineOf P)) → port ≢ Some 0 → AreSessionLines lines → AreSessionLines (ported terminal_place port lines)
+session-ported {P} None lines some own =
+    changed-session terminal_place (λ (line : LineOf P). unconnected None) lines own (λ line at. session-freed terminal_place lines (unconnected None) refl own)
+session-ported {P} (Some port) lines some own =
+    changed-session terminal_place (λ (line : LineOf P). unconnected (Some port)) lines own
+    (λ line at. session-listened lines port (λ none. some (ap Some none)) own)
+
+-- lines without a port
+free-only : {P : Type 0} (place : ℕ) (lines : List (LineOf P)) → HaveNone lines → OnlyOneHas place lines
+free-only place [] none = tt
+free-only zero (line ∷ lines) none = none.1
+free-only (suc place) (line ∷ lines) none = (none.0, free-only place lines none.1)
+
+free-apart : {P : Type 0} (lines : List (LineOf P)) → HaveNone lines → HavePortsApart lines
+free-apart [] none = tt
+free-apart {P} (line ∷ lines) none = (
+  λ own. absurd (true≢false (ap is_some (sym own ∙ none.0))),
+  (subst (λ (p : Option ℕ). OthersHaveNone {P = P} p lines) (sym none.0) (any lines), free-apart lines none.1),
+)
+  where
+    any : (ls : List (LineOf P)) → OthersHaveNone {P = P} None ls
+    any [] = tt
+    any (l ∷ ls) = (tt, any ls)
+
+pub session-free : {P : Type 0} (lines : List (LineOf P)) → HaveNone lines → AreSessionLines lines
+session-free lines none = record { apart = free-apart lines none; others = free-only terminal_place lines none }
+
 -- ---- calls one behind another
 
 pub left-same : (tells : Bool) (s : LineState) (lines : List (LineOf ℕ)) → LinesLeft tells s lines s lines
@@ -72,7 +194,8 @@ left-same tells s lines = record {
   owned = λ conn stands. (lines-stay tells s lines).owned conn stands;
   later = omega arith;
   many = refl;
-  listened = λ few all. all;
+  session = λ own. own;
+  listened = λ own all. all;
   told = λ tells apart. (apart, first-same (record_in s.told));
   heard = λ tells. hears-same s.sent;
 }
@@ -90,7 +213,8 @@ left-then tells s mid new before between after one two = record {
   ];
   later = let a = one.later in let b = two.later in omega (arith, a, b);
   many = two.many ∙ one.many;
-  listened = λ few all. let same = one.many in two.listened (omega (arith, few, same)) (one.listened few all);
+  session = λ own. two.session (one.session own);
+  listened = λ own all. two.listened (one.session own) (one.listened own all);
   told = λ tells apart.
       let first = one.told tells apart in
       let second = two.told tells first.0 in
@@ -108,7 +232,8 @@ left-run tells s new before after run = record {
   owned = run.owned;
   later = run.later;
   many = many-by before after run.ports;
-  listened = λ few all. listened-by s new before after run.listens run.ports all;
+  session = λ own. session-by before after run.ports own;
+  listened = λ own all. listened-by s new before after run.listens run.ports all;
   told = λ tells apart.
       let told = run.told (inl (tells, apart)) in
       (apart-of tells apart told.0, told.1);
@@ -146,73 +271,113 @@ keeps-dropped old new before after told free kept = record {
     none : (conn : ℕ) → after.connection ≡ Some conn → ⊥
     none conn own = true≢false (ap is_some (sym own ∙ free))
 
--- What is taken from the first line: the port that it had or none, and the connection.
+-- What is taken from a line: the port that it had or none, and the connection.
 pub record Gives (port : Option ℕ) (line after : LineOf ℕ) : Type 0 where
   pub free : after.connection ≡ None
   pub which : ((port ≡ line.port) × (after.port ≡ None)) ⊎ ((port ≡ None) × (after.port ≡ line.port))
 
-module _ (tells : Bool) (port : Option ℕ) (old new : LineState) (line after : LineOf ℕ) (others : List (LineOf ℕ)) (gives : Gives port line after)
-    (up : GivesUp port line.connection old new) (keeps : IsTrue tells → KeepsParties old line new after) where
-  still-ports : (p : ℕ) → IsTrue (new.listens p) → HasPort p (after ∷ others) ⊎ (IsTrue (old.listens p) × (¬ HasPort p (line ∷ others)))
+-- which ports are listened on once one of them is given up
+still-there : (s s' : LineState) (port p : Option ℕ) → s'.listens ≡ without_any port s.listens → (IsSome port → port ≢ p) → IsListenedAt s p → IsListenedAt s' p
+still-there s s' port None same other is = tt
+still-there s s' None (Some q) same other is = ap (λ (f : ℕ → Bool). f q) same ∙ is
+still-there s s' (Some n) (Some q) same other is = ap (λ (f : ℕ → Bool). f q) same ∙ by (q == n) (eqb_tells q n)
+  where
+    by : (b : Bool) → ((b ≡ true) × (q ≡ n)) ⊎ ((b ≡ false) × (q ≢ n)) → (if b then false else s.listens q) ≡ true
+    by true (inl e) = absurd (other refl (ap Some (sym e.1)))
+    by true (inr e) = absurd (true≢false e.0)
+    by false tells = is
+
+has-other : (port : Option ℕ) (line : LineOf ℕ) → HasOther port line → IsSome port → port ≢ line.port
+has-other None line other some = absurd (true≢false (sym some))
+has-other (Some p) line other some = λ same. other (sym same)
+
+others-listened : (s s' : LineState) (port : Option ℕ) (lines : List (LineOf ℕ)) → s'.listens ≡ without_any port s.listens → OthersHaveNone port lines → AreListened s lines → AreListened s' lines
+others-listened s s' port [] same none all = tt
+others-listened s s' port (l ∷ lines) same none all =
+    (still-there s s' port l.port same (has-other port l none.0) all.0, others-listened s s' port lines same none.1 all.1)
+
+-- a line whose port none has is not a line that has that port
+differs : (port : Option ℕ) (place : ℕ) (lines : List (LineOf ℕ)) (line : LineOf ℕ) → slice_get lines place ≡ Some line → OthersHaveNone port lines → IsSome port → line.port ≢ port
+differs port place [] line at none some = absurd (cc)
+differs port zero (l ∷ lines) line at none some = λ same. has-other port l none.0 some (sym same ∙ ap (λ (x : LineOf ℕ). x.port) (sym (same_Some l line at)))
+differs port (suc place) (l ∷ lines) line at none some = differs port place lines line at none.1 some
+
+-- where the port of one line is given up, those of the others are listened on
+still-others : (s s' : LineState) (place : ℕ) (lines : List (LineOf ℕ)) (line after : LineOf ℕ) → slice_get lines place ≡ Some line → after.port ≡ None
+    → s'.listens ≡ without_any line.port s.listens → HavePortsApart lines → AreListened s lines → AreListened s' (slice_set lines place after)
+still-others s s' place [] line after at free same are all = absurd (cc)
+still-others s s' zero (l ∷ lines) line after at free same are all =
+    let is : l.port ≡ line.port = ap (λ (x : LineOf ℕ). x.port) (same_Some l line at) in (
+      subst (λ (p : Option ℕ). IsListenedAt s' p) (sym free) tt,
+      others-listened s s' line.port lines same (subst (λ (p : Option ℕ). OthersHaveNone p lines) is are.1.0) all.1,
+    )
+still-others s s' (suc place) (l ∷ lines) line after at free same are all = (
+  still-there s s' line.port l.port same (λ some own. differs l.port place lines line at are.1.0 (subst (λ (p : Option ℕ). IsSome p) own some) own) all.0,
+  still-others s s' place lines line after at free same are.1.1 all.1,
+)
+
+-- where no port is given up, all are
+still-same : (s s' : LineState) (place : ℕ) (lines : List (LineOf ℕ)) (line after : LineOf ℕ) → slice_get lines place ≡ Some line → after.port ≡ line.port
+    → s'.listens ≡ s.listens → AreListened s lines → AreListened s' (slice_set lines place after)
+still-same s s' place [] line after at own same all = absurd (cc)
+still-same s s' zero (l ∷ lines) line after at own same all =
+    let is : l.port ≡ after.port = ap (λ (x : LineOf ℕ). x.port) (same_Some l line at) ∙ sym own in
+    (subst (λ (p : Option ℕ). IsListenedAt s' p) is (listened-at s s' same l.port all.0), listened-by s s' lines lines same refl all.1)
+still-same s s' (suc place) (l ∷ lines) line after at own same all =
+    (listened-at s s' same l.port all.0, still-same s s' place lines line after at own same all.1)
+
+module _ (place : ℕ) (tells : Bool) (port : Option ℕ) (old new : LineState) (lines : List (LineOf ℕ)) (line after : LineOf ℕ) (at : slice_get lines place ≡ Some line)
+    (gives : Gives port line after) (up : GivesUp port line.connection old new) (keeps : IsTrue tells → KeepsParties old line new after) where
+  still-ports : (p : ℕ) → IsTrue (new.listens p) → HasPort p (slice_set lines place after) ⊎ (IsTrue (old.listens p) × (¬ HasPort p lines))
   still-ports p is =
       let out = taken-out port old.listens p (ap (λ (f : ℕ → Bool). f p) (sym up.listens) ∙ is) in
-      elim (has-port-or-not p others) [
-        | inl has ↦ inl (inr has)
-        | inr none ↦ elim gives.which [
-          | inl closes ↦ inr (out.0, λ h. elim h [ inl own ↦ out.1 (closes.0 ∙ own) | inr has ↦ none has ])
-          | inr keeps ↦ elim (is_or_not line.port p) [
-            | inl own ↦ inl (inl (keeps.1 ∙ own))
-            | inr other ↦ inr (out.0, λ h. elim h [ inl own ↦ other own | inr has ↦ none has ])
+      elim (has-port-or-not p lines) [
+        | inr none ↦ inr (out.0, none)
+        | inl has ↦ elim (is_or_not line.port p) [
+          | inr other ↦ inl (other-port p place lines line after at other has)
+          | inl own ↦ elim gives.which [
+            | inl closes ↦ absurd (out.1 (closes.0 ∙ own))
+            | inr keeps ↦ inl (own-port p place lines line after at (keeps.1 ∙ own))
           ]
         ]
       ]
 
-  still-owned : (conn : ℕ) → IsTrue (new.stands conn) → HasConnection conn (after ∷ others) ⊎ (IsTrue (old.stands conn) × (¬ HasConnection conn (line ∷ others)))
+  still-owned : (conn : ℕ) → IsTrue (new.stands conn) → HasConnection conn (slice_set lines place after) ⊎ (IsTrue (old.stands conn) × (¬ HasConnection conn lines))
   still-owned conn is =
       let out = taken-out line.connection old.stands conn (ap (λ (f : ℕ → Bool). f conn) (sym up.stands) ∙ is) in
-      elim ((lines-stay tells (record old { stands = λ _. true }) others).owned conn refl) [
-        | inl has ↦ inl (inr has)
-        | inr none ↦ inr (out.0, λ h. elim h [ inl own ↦ out.1 own | inr has ↦ none.1 has ])
+      elim (has-connection-or-not conn lines) [
+        | inr none ↦ inr (out.0, none)
+        | inl has ↦ inl (other-connection conn place lines line after at out.1 has)
       ]
 
-  still-listened : length (line ∷ others) ≤ 1 → AreListened old (line ∷ others) → AreListened new (after ∷ others)
-  still-listened few all = by others few
-    where
-      at : AreListened new (after ∷ [])
-      at = (by-port gives.which, tt)
-        where
-          by-port : ((port ≡ line.port) × (after.port ≡ None)) ⊎ ((port ≡ None) × (after.port ≡ line.port)) → IsListenedAt new after.port
-          by-port (inl closes) = subst (λ (p : Option ℕ). IsListenedAt new p) (sym closes.1) tt
-          by-port (inr keeps) =
-              let same : new.listens ≡ old.listens = up.listens ∙ ap (λ (p : Option ℕ). without_any p old.listens) keeps.0 in
-              subst (λ (p : Option ℕ). IsListenedAt new p) (sym keeps.1) (listened-at old new same line.port all.0)
+  still-session : AreSessionLines lines → AreSessionLines (slice_set lines place after)
+  still-session own = elim gives.which [
+    | inl closes ↦ session-freed place lines after closes.1 own
+    | inr keeps ↦ session-by lines (slice_set lines place after) (same-ports lines place line after at keeps.1) own
+  ]
 
-      by : (ls : List (LineOf ℕ)) → length (line ∷ ls) ≤ 1 → AreListened new (after ∷ ls)
-      by [] few = at
-      by (l ∷ ls) few = absurd (too-many few)
-        where
-          too-many : suc (suc (length ls)) ≤ 1 → ⊥
-          too-many few = omega (arith, few)
+  still-listened : AreSessionLines lines → AreListened old lines → AreListened new (slice_set lines place after)
+  still-listened own all = elim gives.which [
+    | inl closes ↦ still-others old new place lines line after at closes.1 (up.listens ∙ ap (λ (p : Option ℕ). without_any p old.listens) closes.0) own.apart all
+    | inr keeps ↦ still-same old new place lines line after at keeps.1 (up.listens ∙ ap (λ (p : Option ℕ). without_any p old.listens) keeps.0) all
+  ]
 
-  pub left-given : LinesLeft tells old (line ∷ others) new (after ∷ others)
+  pub left-given : LinesLeft tells old lines new (slice_set lines place after)
   left-given = record {
     ports = still-ports;
     owned = still-owned;
     later = let same = up.faults in omega (arith, same);
-    many = refl;
+    many = same-many lines place after;
+    session = still-session;
     listened = still-listened;
     told = λ tells apart. (
-      (stand_apart 0 old new (line ∷ others) line after refl apart (keeps tells)).apart,
+      (stand_apart place old new lines line after at apart (keeps tells)).apart,
       subst (λ (t : Told). IsFirst (record_in old.told) (record_in t)) (sym up.told) (first-same (record_in old.told)),
     );
     heard = λ tells. hears-equal old.sent new.sent up.sent;
   }
 
--- ---- the first of some lines
-
-pub first-of : (lines : List (LineOf ℕ)) (line : LineOf ℕ) → slice_get lines 0 ≡ Some line → (others : List (LineOf ℕ)) × (lines ≡ line ∷ others)
-first-of [] line at = absurd (cc)
-first-of (l ∷ others) line at = (others, ap (λ (x : LineOf ℕ). x ∷ others) (same_Some l line at))
+-- ---- what a line becomes
 
 pub closed-none : {P : Type 0} (line : LineOf P) → line.port ≡ None → closed line ≡ line
 closed-none {P} line none = by line.port none
@@ -242,111 +407,106 @@ hung-some {P} line port some = by line.port some
     by None is = absurd (cc)
     by (Some q) is = ap unconnected is
 
-pub none-of : (lines : List (LineOf ℕ)) → slice_get lines 0 ≡ None → lines ≡ []
-none-of [] none = refl
-none-of (l ∷ lines) none = absurd (cc)
-
 -- a line is closed, or loses its connection
-module _ (tells : Bool) (old new : LineState) (others : List (LineOf ℕ)) where
-  others-seen : (line after : LineOf ℕ) → (IsTrue tells → KeepsParties old line new after) → IsTrue tells × AreApart old (line ∷ others)
-      → map (seen_line new) (after ∷ others) ≡ seen_line new after ∷ map (seen_line old) others
-  others-seen line after keeps told = (stand_apart 0 old new (line ∷ others) line after refl told.1 (keeps told.0)).seen
+module _ (place : ℕ) (tells : Bool) (old new : LineState) (lines : List (LineOf ℕ)) (line : LineOf ℕ) (at : slice_get lines place ≡ Some line) where
+  -- what is seen of the lines, where the line at the place has become that
+  seen-set : (after : LineOf ℕ) → (IsTrue tells → KeepsParties old line new after) → IsTrue tells × AreApart old lines
+      → map (seen_line new) (slice_set lines place after) ≡ slice_set (map (seen_line old) lines) place (seen_line new after)
+  seen-set after keeps told = (stand_apart place old new lines line after at told.1 (keeps told.0)).seen
 
-  apart-in : (line : LineOf ℕ) (port : ℕ) → line.port ≡ Some port → AreLinesTold tells old (line ∷ others) → IsTrue tells × AreApart old (line ∷ others)
-  apart-in line port is (inl told) = told
-  apart-in line port is (inr none) = absurd (true≢false (ap is_some (sym is ∙ none.0)))
+  seen-at : slice_get (map (seen_line old) lines) place ≡ Some (seen_line old line)
+  seen-at = slice_get-map (seen_line old) lines place ∙ ap (option_map (seen_line old)) at
 
-  pub left-closed : (line : LineOf ℕ) → (line.port ≡ None → new ≡ old) → (IsSome line.port → GivesUp line.port line.connection old new)
-      → (IsTrue tells → KeepsParties old line new (closed line)) → LinesLeft tells old (line ∷ others) new (closed line ∷ others)
-  left-closed line none up keeps = by line.port refl
+  apart-in : (port : ℕ) → line.port ≡ Some port → AreLinesTold tells old lines → IsTrue tells × AreApart old lines
+  apart-in port is (inl told) = told
+  apart-in port is (inr none) = absurd (true≢false (ap is_some (sym is ∙ free-at lines place at none)))
     where
-      by : (port : Option ℕ) → line.port ≡ port → LinesLeft tells old (line ∷ others) new (closed line ∷ others)
-      by None is =
-          let same : closed line ≡ line = closed-none line is in
-          subst (λ (s : LineState). LinesLeft tells old (line ∷ others) s (closed line ∷ others)) (sym (none is))
-          (subst (λ (l : LineOf ℕ). LinesLeft tells old (line ∷ others) old (l ∷ others)) (sym same) (left-same tells old (line ∷ others)))
+      free-at : (ls : List (LineOf ℕ)) (p : ℕ) → slice_get ls p ≡ Some line → HaveNoPort ls → line.port ≡ None
+      free-at [] p at none = absurd (cc)
+      free-at (l ∷ ls) zero at none = ap (λ (x : LineOf ℕ). x.port) (sym (same_Some l line at)) ∙ none.0
+      free-at (l ∷ ls) (suc p) at none = free-at ls p at none.1
+
+  -- a line that stays as it is
+  left-still : (after : LineOf ℕ) → after ≡ line → new ≡ old → LinesLeft tells old lines new (slice_set lines place after)
+  left-still after same still =
+      subst (λ (s : LineState). LinesLeft tells old lines s (slice_set lines place after)) (sym still)
+      (subst (λ (ls : List (LineOf ℕ)). LinesLeft tells old lines old ls)
+      (sym (ap (slice_set lines place) same ∙ set-same place lines line at)) (left-same tells old lines))
+
+  seen-stays : (change : LineOf Peer → LineOf Peer) (after : LineOf ℕ) → after ≡ line → new ≡ old → change (seen_line old line) ≡ seen_line old line
+      → SeenAs (changed_at place change) old lines new (slice_set lines place after)
+  seen-stays change after same still stays =
+      subst (λ (s : LineState). SeenAs (changed_at place change) old lines s (slice_set lines place after)) (sym still) (record {
+        lines =
+            ap (map (seen_line old)) (ap (slice_set lines place) same ∙ set-same place lines line at)
+            ∙ sym (changed-same change place (map (seen_line old) lines) (seen_line old line) seen-at stays);
+        told = refl;
+        sent = refl;
+      })
+
+  seen-changes : (change : LineOf Peer → LineOf Peer) (port connection : Option ℕ) (after : LineOf ℕ) (p : ℕ) → line.port ≡ Some p → GivesUp port connection old new
+      → (IsTrue tells → KeepsParties old line new after) → AreLinesTold tells old lines → seen_line new after ≡ change (seen_line old line)
+      → SeenAs (changed_at place change) old lines new (slice_set lines place after)
+  seen-changes change port connection after p is given keeps told becomes = record {
+    lines =
+        seen-set after keeps (apart-in p is told)
+        ∙ ap (slice_set (map (seen_line old) lines) place) becomes
+        ∙ changed-set change place (map (seen_line old) lines) (seen_line old line) seen-at;
+    told = given.told;
+    sent = given.sent;
+  }
+
+  pub left-closed : (line.port ≡ None → new ≡ old) → (IsSome line.port → GivesUp line.port line.connection old new)
+      → (IsTrue tells → KeepsParties old line new (closed line)) → LinesLeft tells old lines new (slice_set lines place (closed line))
+  left-closed none up keeps = by line.port refl
+    where
+      by : (port : Option ℕ) → line.port ≡ port → LinesLeft tells old lines new (slice_set lines place (closed line))
+      by None is = left-still (closed line) (closed-none line is) (none is)
       by (Some port) is =
           let free : closed line ≡ unconnected None = closed-some line port is in
           let gives : Gives line.port line (closed line) = record {
             free = ap (λ (l : LineOf ℕ). l.connection) free;
             which = inl (refl, ap (λ (l : LineOf ℕ). l.port) free);
           } in
-          left-given tells line.port old new line (closed line) others gives (up (ap is_some is)) keeps
+          left-given place tells line.port old new lines line (closed line) at gives (up (ap is_some is)) keeps
 
-  pub seen-closed : (line : LineOf ℕ) → (line.port ≡ None → new ≡ old) → (IsSome line.port → GivesUp line.port line.connection old new)
-      → (IsTrue tells → KeepsParties old line new (closed line)) → AreLinesTold tells old (line ∷ others)
-      → SeenAs unported old (line ∷ others) new (closed line ∷ others)
-  seen-closed line none up keeps told = by line.port refl
+  pub seen-closed : (line.port ≡ None → new ≡ old) → (IsSome line.port → GivesUp line.port line.connection old new)
+      → (IsTrue tells → KeepsParties old line new (closed line)) → AreLinesTold tells old lines
+      → SeenAs (unported place) old lines new (slice_set lines place (closed line))
+  seen-closed none up keeps told = by line.port refl
     where
-      by : (port : Option ℕ) → line.port ≡ port → SeenAs unported old (line ∷ others) new (closed line ∷ others)
-      by None is =
-          let same : closed line ≡ line = closed-none line is in
-          let seen : closed (seen_line old line) ≡ seen_line old line = closed-none (seen_line old line) is in
-          subst (λ (s : LineState). SeenAs unported old (line ∷ others) s (closed line ∷ others)) (sym (none is)) (record {
-            lines =
-                ap (λ (l : LineOf ℕ). seen_line old l ∷ map (seen_line old) others) same
-                ∙ ap (λ (l : LineOf Peer). l ∷ map (seen_line old) others) (sym seen);
-            told = refl;
-            sent = refl;
-          })
+      by : (port : Option ℕ) → line.port ≡ port → SeenAs (unported place) old lines new (slice_set lines place (closed line))
+      by None is = seen-stays closed (closed line) (closed-none line is) (none is) (closed-none (seen_line old line) is)
       by (Some port) is =
           let free : closed line ≡ unconnected None = closed-some line port is in
           let seen : closed (seen_line old line) ≡ unconnected None = closed-some (seen_line old line) port is in
-          let given = up (ap is_some is) in
-          record {
-            lines =
-                others-seen line (closed line) keeps (apart-in line port is told)
-                ∙ ap (λ (l : LineOf ℕ). seen_line new l ∷ map (seen_line old) others) free
-                ∙ ap (λ (l : LineOf Peer). l ∷ map (seen_line old) others) (sym seen);
-            told = given.told;
-            sent = given.sent;
-          }
+          seen-changes closed line.port line.connection (closed line) port is (up (ap is_some is)) keeps told (ap (seen_line new) free ∙ sym seen)
 
-  pub left-hung : (line : LineOf ℕ) → (line.port ≡ None → new ≡ old) → (IsSome line.port → GivesUp None line.connection old new)
-      → (IsTrue tells → KeepsParties old line new (hung line)) → LinesLeft tells old (line ∷ others) new (hung line ∷ others)
-  left-hung line none up keeps = by line.port refl
+  pub left-hung : (line.port ≡ None → new ≡ old) → (IsSome line.port → GivesUp None line.connection old new)
+      → (IsTrue tells → KeepsParties old line new (hung line)) → LinesLeft tells old lines new (slice_set lines place (hung line))
+  left-hung none up keeps = by line.port refl
     where
-      by : (port : Option ℕ) → line.port ≡ port → LinesLeft tells old (line ∷ others) new (hung line ∷ others)
-      by None is =
-          let same : hung line ≡ line = hung-none line is in
-          subst (λ (s : LineState). LinesLeft tells old (line ∷ others) s (hung line ∷ others)) (sym (none is))
-          (subst (λ (l : LineOf ℕ). LinesLeft tells old (line ∷ others) old (l ∷ others)) (sym same) (left-same tells old (line ∷ others)))
+      by : (port : Option ℕ) → line.port ≡ port → LinesLeft tells old lines new (slice_set lines place (hung line))
+      by None is = left-still (hung line) (hung-none line is) (none is)
       by (Some port) is =
           let free : hung line ≡ unconnected (Some port) = hung-some line port is in
           let gives : Gives None line (hung line) = record {
             free = ap (λ (l : LineOf ℕ). l.connection) free;
             which = inr (refl, ap (λ (l : LineOf ℕ). l.port) free ∙ sym is);
           } in
-          left-given tells None old new line (hung line) others gives (up (ap is_some is)) keeps
+          left-given place tells None old new lines line (hung line) at gives (up (ap is_some is)) keeps
 
-  pub seen-hung : (line : LineOf ℕ) → (line.port ≡ None → new ≡ old) → (IsSome line.port → GivesUp None line.connection old new)
-      → (IsTrue tells → KeepsParties old line new (hung line)) → AreLinesTold tells old (line ∷ others)
-      → SeenAs hung_up old (line ∷ others) new (hung line ∷ others)
-  seen-hung line none up keeps told = by line.port refl
+  pub seen-hung : (line.port ≡ None → new ≡ old) → (IsSome line.port → GivesUp None line.connection old new)
+      → (IsTrue tells → KeepsParties old line new (hung line)) → AreLinesTold tells old lines
+      → SeenAs (hung_up place) old lines new (slice_set lines place (hung line))
+  seen-hung none up keeps told = by line.port refl
     where
-      by : (port : Option ℕ) → line.port ≡ port → SeenAs hung_up old (line ∷ others) new (hung line ∷ others)
-      by None is =
-          let same : hung line ≡ line = hung-none line is in
-          let seen : hung (seen_line old line) ≡ seen_line old line = hung-none (seen_line old line) is in
-          subst (λ (s : LineState). SeenAs hung_up old (line ∷ others) s (hung line ∷ others)) (sym (none is)) (record {
-            lines =
-                ap (λ (l : LineOf ℕ). seen_line old l ∷ map (seen_line old) others) same
-                ∙ ap (λ (l : LineOf Peer). l ∷ map (seen_line old) others) (sym seen);
-            told = refl;
-            sent = refl;
-          })
+      by : (port : Option ℕ) → line.port ≡ port → SeenAs (hung_up place) old lines new (slice_set lines place (hung line))
+      by None is = seen-stays hung (hung line) (hung-none line is) (none is) (hung-none (seen_line old line) is)
       by (Some port) is =
           let free : hung line ≡ unconnected (Some port) = hung-some line port is in
           let seen : hung (seen_line old line) ≡ unconnected (Some port) = hung-some (seen_line old line) port is in
-          let given = up (ap is_some is) in
-          record {
-            lines =
-                others-seen line (hung line) keeps (apart-in line port is told)
-                ∙ ap (λ (l : LineOf ℕ). seen_line new l ∷ map (seen_line old) others) free
-                ∙ ap (λ (l : LineOf Peer). l ∷ map (seen_line old) others) (sym seen);
-            told = given.told;
-            sent = given.sent;
-          }
+          seen-changes hung None line.connection (hung line) port is (up (ap is_some is)) keeps told (ap (seen_line new) free ∙ sym seen)
 
 -- ---- a port is listened on, or is not
 
@@ -366,6 +526,15 @@ one-there n f = by (n == n) (eqb_tells n n)
     by false (inl e) = absurd (true≢false (sym e.0))
     by false (inr e) = absurd (e.1 refl)
 
+-- a port that was listened on is so still, where one more is
+one-added : (s s' : LineState) (port : ℕ) (p : Option ℕ) → s'.listens ≡ with_one port s.listens → IsListenedAt s p → IsListenedAt s' p
+one-added s s' port None same is = tt
+one-added s s' port (Some q) same is = ap (λ (f : ℕ → Bool). f q) same ∙ by (q == port)
+  where
+    by : (b : Bool) → (if b then true else s.listens q) ≡ true
+    by true = refl
+    by false = is
+
 -- callers that other lines have stay theirs
 pub apart-still : (old new : LineState) (lines : List (LineOf ℕ)) → SameKind old.told new.told → parties new ≡ parties old → AreApart old lines → AreApart new lines
 apart-still old new lines kind same apart = record {
@@ -378,44 +547,55 @@ apart-still old new lines kind same apart = record {
 pub seen-still : (old new : LineState) (lines : List (LineOf ℕ)) → parties new ≡ parties old → map (seen_line new) lines ≡ map (seen_line old) lines
 seen-still old new lines same = ap (λ (f : ℕ → Peer). map (renamed f) lines) same
 
+-- a line that gets a port is seen so
+pub seen-changed : (s : LineState) (place port : ℕ) (lines : List (LineOf ℕ))
+    → map (seen_line s) (changed_at place (λ (line : LineOf ℕ). unconnected (Some port)) lines)
+    ≡ changed_at place (λ (line : LineOf Peer). unconnected (Some port)) (map (seen_line s) lines)
+seen-changed s place port [] = refl
+seen-changed s zero port (line ∷ lines) = refl
+seen-changed s (suc place) port (line ∷ lines) = ap (λ (l : List (LineOf Peer)). seen_line s line ∷ l) (seen-changed s place port lines)
+
 later-raised : (count : ℕ) → count ≤ raised count
 later-raised count = omega arith
 
-module _ (tells : Bool) (old new : LineState) (line : LineOf ℕ) (others : List (LineOf ℕ)) (port : ℕ) where
+-- the port of each line is listened on, and so is the one that a line gets
+all-listened : (s s' : LineState) (port place : ℕ) (lines : List (LineOf ℕ)) (after : LineOf ℕ) → s'.listens ≡ with_one port s.listens → after.port ≡ Some port → AreListened s lines → AreListened s' (slice_set lines place after)
+all-listened s s' port place [] after same own all = tt
+all-listened s s' port zero (l ∷ lines) after same own all =
+    (subst (λ (p : Option ℕ). IsListenedAt s' p) (sym own) (ap (λ (f : ℕ → Bool). f port) same ∙ one-there port s.listens), each lines all.1)
+  where
+    each : (ls : List (LineOf ℕ)) → AreListened s ls → AreListened s' ls
+    each [] all = tt
+    each (k ∷ ls) all = (one-added s s' port k.port same all.0, each ls all.1)
+all-listened s s' port (suc place) (l ∷ lines) after same own all = (one-added s s' port l.port same all.0, all-listened s s' port place lines after same own all.1)
+
+module _ (place : ℕ) (tells : Bool) (old new : LineState) (lines : List (LineOf ℕ)) (line : LineOf ℕ) (port : ℕ) (at : slice_get lines place ≡ Some line) where
   -- the line has the port from then on
-  pub left-listened : Listened tells port (Ok tt) old new → line.port ≡ None → IsSettled line → LinesLeft tells old (line ∷ others) new (unconnected (Some port) ∷ others)
-  left-listened listened none settled = record {
+  pub left-listened : IsListening tells port (Ok tt) old new → line.port ≡ None → IsSettled line → (AreSessionLines lines → AreSessionLines (slice_set lines place (unconnected (Some port))))
+      → LinesLeft tells old lines new (slice_set lines place (unconnected (Some port)))
+  left-listened listened none settled session = record {
     ports = λ p is. elim (one-more port old.listens p (ap (λ (f : ℕ → Bool). f p) (sym listened.listens) ∙ is)) [
-      | inl own ↦ inl (inl (ap Some (sym own)))
-      | inr was ↦ elim (has-port-or-not p others) [
-        | inl has ↦ inl (inr has)
-        | inr free ↦ inr (was, λ h. elim h [ inl own ↦ true≢false (ap is_some (sym own ∙ none)) | inr has ↦ free has ])
+      | inl own ↦ inl (own-port p place lines line (unconnected (Some port)) at (ap Some (sym own)))
+      | inr was ↦ elim (has-port-or-not p lines) [
+        | inl has ↦ inl (other-port p place lines line (unconnected (Some port)) at (λ own. true≢false (ap is_some (sym own ∙ none))) has)
+        | inr free ↦ inr (was, free)
       ]
     ];
-    owned = λ conn is. elim ((left-same tells old (line ∷ others)).owned conn (ap (λ (f : ℕ → Bool). f conn) (sym listened.stands) ∙ is)) [
-      | inl has ↦ elim has [
-        | inl own ↦ absurd (true≢false (ap is_some (sym own ∙ settled.port none)))
-        | inr other ↦ inl (inr other)
-      ]
-      | inr free ↦ inr free
+    owned = λ conn is. elim (has-connection-or-not conn lines) [
+      | inl has ↦ inl (other-connection conn place lines line (unconnected (Some port)) at (λ own. true≢false (ap is_some (sym own ∙ settled.port none))) has)
+      | inr free ↦ inr (ap (λ (f : ℕ → Bool). f conn) (sym listened.stands) ∙ is, free)
     ];
     later = let same = listened.counted in omega (arith, same);
-    many = refl;
-    listened = λ few all. by others few;
+    many = same-many lines place (unconnected (Some port));
+    session = session;
+    listened = λ own all. all-listened old new port place lines (unconnected (Some port)) listened.listens refl all;
     told = λ tells apart. (
-      (stand_apart 0 old new (line ∷ others) line (unconnected (Some port)) refl apart (keeps tells)).apart,
+      (stand_apart place old new lines line (unconnected (Some port)) at apart (keeps tells)).apart,
       (listened.told tells).grows,
     );
     heard = λ tells. hears-equal old.sent new.sent listened.sent;
   }
     where
-      by : (ls : List (LineOf ℕ)) → length (line ∷ ls) ≤ 1 → AreListened new (unconnected (Some port) ∷ ls)
-      by [] few = (ap (λ (f : ℕ → Bool). f port) listened.listens ∙ one-there port old.listens, tt)
-      by (l ∷ ls) few = absurd (too-many few)
-        where
-          too-many : suc (suc (length ls)) ≤ 1 → ⊥
-          too-many few = omega (arith, few)
-
       unlinked : (conn : ℕ) → None ≡ Some conn → ⊥
       unlinked conn own = true≢false (ap is_some (sym own))
 
@@ -427,64 +607,63 @@ module _ (tells : Bool) (old new : LineState) (line : LineOf ℕ) (others : List
         linked = λ was conn own. absurd (unlinked conn own);
       }
 
-  -- the outside refused it, or there was no memory
-  pub left-unlistened : (fault : ListenFault) → Listened tells port (Err fault) old new → LinesLeft tells old (line ∷ others) new (line ∷ others)
-  left-unlistened fault listened = record {
-    ports = λ p is. (left-same tells old (line ∷ others)).ports p (ap (λ (f : ℕ → Bool). f p) (sym listened.listens) ∙ is);
-    owned = λ conn is. (left-same tells old (line ∷ others)).owned conn (ap (λ (f : ℕ → Bool). f conn) (sym listened.stands) ∙ is);
-    later = subst (λ (n : ℕ). old.faults ≤ n) (sym listened.counted) (counted fault);
-    many = refl;
-    listened = λ few all. listened-by old new (line ∷ others) (line ∷ others) listened.listens refl all;
-    told = λ tells apart. told fault listened tells apart;
-    heard = λ tells. hears-equal old.sent new.sent listened.sent;
-  }
-    where
-      counted : (fault : ListenFault) → old.faults ≤ listen_faults (Err fault) old.faults
-      counted listen.Failed = later-raised old.faults
-      counted listen.OutOfMemory = omega arith
+-- the outside refused it, or there was no memory
+pub left-unlistened : (tells : Bool) (old new : LineState) (lines : List (LineOf ℕ)) (port : ℕ) (fault : ListenFault) → IsListening tells port (Err fault) old new → LinesLeft tells old lines new lines
+left-unlistened tells old new lines port fault listened = record {
+  ports = λ p is. (left-same tells old lines).ports p (ap (λ (f : ℕ → Bool). f p) (sym listened.listens) ∙ is);
+  owned = λ conn is. (left-same tells old lines).owned conn (ap (λ (f : ℕ → Bool). f conn) (sym listened.stands) ∙ is);
+  later = subst (λ (n : ℕ). old.faults ≤ n) (sym listened.counted) (counted fault);
+  many = refl;
+  session = λ own. own;
+  listened = λ own all. listened-by old new lines lines listened.listens refl all;
+  told = λ tells apart. told fault listened tells apart;
+  heard = λ tells. hears-equal old.sent new.sent listened.sent;
+}
+  where
+    counted : (fault : ListenFault) → old.faults ≤ listen_faults (Err fault) old.faults
+    counted listen.Failed = later-raised old.faults
+    counted listen.OutOfMemory = omega arith
 
-      told : (fault : ListenFault) → Listened tells port (Err fault) old new → IsTrue tells → AreApart old (line ∷ others)
-          → AreApart new (line ∷ others) × IsFirst (record_in old.told) (record_in new.told)
-      told listen.Failed listened is apart = (apart-still old new (line ∷ others) (listened.told is).kind listened.behind apart, (listened.told is).grows)
-      told listen.OutOfMemory listened is apart = (
-        apart-still old new (line ∷ others) (subst (λ (t : Told). SameKind old.told t) (sym (listened.told is)) (same_kind old.told)) listened.behind apart,
-        subst (λ (t : Told). IsFirst (record_in old.told) (record_in t)) (sym (listened.told is)) (first-same (record_in old.told)),
-      )
+    told : (fault : ListenFault) → IsListening tells port (Err fault) old new → IsTrue tells → AreApart old lines
+        → AreApart new lines × IsFirst (record_in old.told) (record_in new.told)
+    told listen.Failed listened is apart = (apart-still old new lines (listened.told is).kind listened.behind apart, (listened.told is).grows)
+    told listen.OutOfMemory listened is apart = (
+      apart-still old new lines (subst (λ (t : Told). SameKind old.told t) (sym (listened.told is)) (same_kind old.told)) listened.behind apart,
+      subst (λ (t : Told). IsFirst (record_in old.told) (record_in t)) (sym (listened.told is)) (first-same (record_in old.told)),
+    )
 
--- ---- the line of the second teletype among the lines of a machine
+-- ---- a line that is there or not
 
-pub seen-none : (change : List (LineOf Peer) → List (LineOf Peer)) (s : LineState) (lines : List (LineOf ℕ)) → change [] ≡ [] → slice_get lines 0 ≡ None → SeenAs change s lines s lines
-seen-none change s [] nothing none = record { lines = sym nothing; told = refl; sent = refl }
-seen-none change s (line ∷ lines) nothing none = absurd (cc)
+pub seen-none : (change : LineOf Peer → LineOf Peer) (place : ℕ) (s : LineState) (lines : List (LineOf ℕ)) → slice_get lines place ≡ None → SeenAs (changed_at place change) s lines s lines
+seen-none change place s lines none = record {
+  lines = sym (changed-none change place (map (seen_line s) lines) (slice_get-map (seen_line s) lines place ∙ ap (option_map (seen_line s)) none));
+  told = refl;
+  sent = refl;
+}
 
-module _ (tells : Bool) (old new : LineState) (lines : List (LineOf ℕ)) (line after : LineOf ℕ) (at : slice_get lines 0 ≡ Some line)
+module _ (place : ℕ) (tells : Bool) (old new : LineState) (lines : List (LineOf ℕ)) (line after : LineOf ℕ) (at : slice_get lines place ≡ Some line)
     (none : line.port ≡ None → new ≡ old) (keeps : IsTrue tells → KeepsParties old line new after) where
-  pub close-left : after ≡ closed line → (IsSome line.port → GivesUp line.port line.connection old new) → LinesLeft tells old lines new (slice_set lines 0 after)
+  keeps-as : (l : LineOf ℕ) → after ≡ l → IsTrue tells → KeepsParties old line new l
+  keeps-as l is told = subst (λ (x : LineOf ℕ). KeepsParties old line new x) is (keeps told)
+
+  pub close-left : after ≡ closed line → (IsSome line.port → GivesUp line.port line.connection old new) → LinesLeft tells old lines new (slice_set lines place after)
   close-left is up =
-      let (others, are) = first-of lines line at in
-      subst (λ (ls : List (LineOf ℕ)). LinesLeft tells old ls new (slice_set ls 0 after)) (sym are)
-      (subst (λ (l : LineOf ℕ). LinesLeft tells old (line ∷ others) new (l ∷ others)) (sym is)
-      (left-closed tells old new others line none up (λ told. subst (λ (l : LineOf ℕ). KeepsParties old line new l) is (keeps told))))
+      subst (λ (l : LineOf ℕ). LinesLeft tells old lines new (slice_set lines place l)) (sym is)
+      (left-closed place tells old new lines line at none up (keeps-as (closed line) is))
 
-  pub close-seen : after ≡ closed line → (IsSome line.port → GivesUp line.port line.connection old new) → AreLinesTold tells old lines → SeenAs unported old lines new (slice_set lines 0 after)
+  pub close-seen : after ≡ closed line → (IsSome line.port → GivesUp line.port line.connection old new) → AreLinesTold tells old lines
+      → SeenAs (unported place) old lines new (slice_set lines place after)
   close-seen is up told =
-      let (others, are) = first-of lines line at in
-      subst (λ (ls : List (LineOf ℕ)). SeenAs unported old ls new (slice_set ls 0 after)) (sym are)
-      (subst (λ (l : LineOf ℕ). SeenAs unported old (line ∷ others) new (l ∷ others)) (sym is)
-      (seen-closed tells old new others line none up (λ tells. subst (λ (l : LineOf ℕ). KeepsParties old line new l) is (keeps tells))
-      (subst (λ (ls : List (LineOf ℕ)). AreLinesTold tells old ls) are told)))
+      subst (λ (l : LineOf ℕ). SeenAs (unported place) old lines new (slice_set lines place l)) (sym is)
+      (seen-closed place tells old new lines line at none up (keeps-as (closed line) is) told)
 
-  pub hang-left : after ≡ hung line → (IsSome line.port → GivesUp None line.connection old new) → LinesLeft tells old lines new (slice_set lines 0 after)
+  pub hang-left : after ≡ hung line → (IsSome line.port → GivesUp None line.connection old new) → LinesLeft tells old lines new (slice_set lines place after)
   hang-left is up =
-      let (others, are) = first-of lines line at in
-      subst (λ (ls : List (LineOf ℕ)). LinesLeft tells old ls new (slice_set ls 0 after)) (sym are)
-      (subst (λ (l : LineOf ℕ). LinesLeft tells old (line ∷ others) new (l ∷ others)) (sym is)
-      (left-hung tells old new others line none up (λ told. subst (λ (l : LineOf ℕ). KeepsParties old line new l) is (keeps told))))
+      subst (λ (l : LineOf ℕ). LinesLeft tells old lines new (slice_set lines place l)) (sym is)
+      (left-hung place tells old new lines line at none up (keeps-as (hung line) is))
 
-  pub hang-seen : after ≡ hung line → (IsSome line.port → GivesUp None line.connection old new) → AreLinesTold tells old lines → SeenAs hung_up old lines new (slice_set lines 0 after)
+  pub hang-seen : after ≡ hung line → (IsSome line.port → GivesUp None line.connection old new) → AreLinesTold tells old lines
+      → SeenAs (hung_up place) old lines new (slice_set lines place after)
   hang-seen is up told =
-      let (others, are) = first-of lines line at in
-      subst (λ (ls : List (LineOf ℕ)). SeenAs hung_up old ls new (slice_set ls 0 after)) (sym are)
-      (subst (λ (l : LineOf ℕ). SeenAs hung_up old (line ∷ others) new (l ∷ others)) (sym is)
-      (seen-hung tells old new others line none up (λ tells. subst (λ (l : LineOf ℕ). KeepsParties old line new l) is (keeps tells))
-      (subst (λ (ls : List (LineOf ℕ)). AreLinesTold tells old ls) are told)))
+      subst (λ (l : LineOf ℕ). SeenAs (hung_up place) old lines new (slice_set lines place l)) (sym is)
+      (seen-hung place tells old new lines line at none up (keeps-as (hung line) is) told)

@@ -22,7 +22,7 @@ use Rattle.command_session.specs.declared.next.Next.TheVariants.{Go}
 use Rattle.command_session.specs.declared.fault.CommandFault.TheVariants.{AlreadyAttached, NotAttached, ReadOnly, NoFile, FileTooLong, FileFailed, NoSuchName}
 use Rattle.command_session.specs.Live.{Live, standing, with_attached}
 use Rattle.command_session.specs.Reply.{Answer, Reply, refused}
-use Rattle.command_session.specs.LineEffects.{is_terminal, unported, detach_port_reply}
+use Rattle.command_session.specs.LineEffects.{is_terminal, terminal_place, unported, detach_port_reply}
 
 -- whether the units of a kind have files
 abbrev pub has_files : Kind → Bool
@@ -151,9 +151,9 @@ abbrev pub left_by : Option UnitName → Filed → Live → Live
 left_by None s live = record live { machine = record (with_attached live.machine s.attached) { disk = s.disk }; files = s.files }
 left_by (Some unit) s live = record live { files = s.files }
 
--- the terminal line has no port any more, where no unit has kept its file
+-- the second teletype has no port any more, where no unit has kept its file
 abbrev pub unported_by : Option UnitName → Live → Live
-unported_by None live = record live { lines = unported live.lines }
+unported_by None live = record live { lines = unported terminal_place live.lines }
 unported_by (Some unit) live = live
 
 abbrev pub filed_live : Emptied → Live → Live

@@ -6,6 +6,8 @@ use Rattle.unit_trait.specs.declared.kind.Kind.TheVariants.{Tti1}
 use Rattle.unit_trait.specs.declared.kind.UnitName.{UnitName}
 use Rattle.host_lines.specs.Traffic.{Answer as LineAnswer, Failed, Peer, Replied, listening}
 use Rattle.telnet_lines.specs.Line.{LineOf, unconnected}
+use Rattle.terminal_ports.specs.Ports.{changed_at}
+use Rattle.nova_machine.specs.Machine.{place_of}
 use Rattle.command_session.specs.declared.next.Next.TheVariants.{Go}
 use Rattle.command_session.specs.declared.fault.CommandFault.TheVariants.{AlreadyAttached, NotAttached, OutOfRange, PortFailed, NoSuchName}
 use Rattle.command_session.specs.Live.{Live, standing}
@@ -19,14 +21,16 @@ is_terminal unit = is_terminal_kind unit.kind
     is_terminal_kind Tti1 = true
     is_terminal_kind kind = false
 
--- its line is the first of all lines
-abbrev pub terminal_line : {P : Type 0} → List (LineOf P) → Option (LineOf P)
-terminal_line lines = slice_get lines 0
+-- its line is line 0
+abbrev pub terminal_place : ℕ
+terminal_place = place_of 0
 
--- it has that port, or none, and nobody is connected
-abbrev pub ported : {P : Type 0} → Option ℕ → List (LineOf P) → List (LineOf P)
-ported port [] = []
-ported port (line ∷ others) = unconnected port ∷ others
+abbrev pub terminal_line : {P : Type 0} → List (LineOf P) → Option (LineOf P)
+terminal_line lines = slice_get lines terminal_place
+
+-- the line at a place has that port, or none, and nobody is connected
+abbrev pub ported : {P : Type 0} → ℕ → Option ℕ → List (LineOf P) → List (LineOf P)
+ported {P} place port lines = changed_at place (λ (line : LineOf P). unconnected port) lines
 
 -- a line with a port to which nobody is connected any more
 abbrev pub hung_by : {P : Type 0} → Option ℕ → LineOf P → LineOf P
@@ -36,9 +40,8 @@ hung_by (Some port) line = unconnected (Some port)
 abbrev pub hung : {P : Type 0} → LineOf P → LineOf P
 hung line = hung_by line.port line
 
-abbrev pub hung_up : {P : Type 0} → List (LineOf P) → List (LineOf P)
-hung_up [] = []
-hung_up (line ∷ others) = hung line ∷ others
+abbrev pub hung_up : {P : Type 0} → ℕ → List (LineOf P) → List (LineOf P)
+hung_up place lines = changed_at place hung lines
 
 -- a line without a port, if it had one
 abbrev pub closed_by : {P : Type 0} → Option ℕ → LineOf P → LineOf P
@@ -48,10 +51,9 @@ closed_by (Some port) line = unconnected None
 abbrev pub closed : {P : Type 0} → LineOf P → LineOf P
 closed line = closed_by line.port line
 
--- it has no port any more
-abbrev pub unported : {P : Type 0} → List (LineOf P) → List (LineOf P)
-unported [] = []
-unported (line ∷ others) = closed line ∷ others
+-- the line at a place has no port any more
+abbrev pub unported : {P : Type 0} → ℕ → List (LineOf P) → List (LineOf P)
+unported place lines = changed_at place closed lines
 
 -- ---- ATTACH
 
@@ -63,28 +65,28 @@ abbrev pub listen_answer : LineAnswer → Answer
 listen_answer Failed = Err PortFailed
 listen_answer answer = Ok Go
 
-abbrev pub listen_lines : LineAnswer → ℕ → List (LineOf Peer) → List (LineOf Peer)
-listen_lines Failed port lines = lines
-listen_lines answer port lines = ported (Some port) lines
+abbrev pub listen_lines : LineAnswer → ℕ → ℕ → List (LineOf Peer) → List (LineOf Peer)
+listen_lines Failed place port lines = lines
+listen_lines answer place port lines = ported place (Some port) lines
 
--- the port is listened on, where the outside lets it
-abbrev pub listen_with : Replied → ℕ → Live → Reply
-listen_with said port live = record {
+-- the port is listened on for the line at that place, where the outside lets it
+abbrev pub listen_with : Replied → ℕ → ℕ → Live → Reply
+listen_with said place port live = record {
   made = [];
   answer = listen_answer said.answer;
-  after = standing 0 (record live { lines = listen_lines said.answer port live.lines; ahead = said.ahead });
+  after = standing 0 (record live { lines = listen_lines said.answer place port live.lines; ahead = said.ahead });
 }
 
-abbrev pub attach_line : Option (LineOf Peer) → ℕ → Live → Reply
-attach_line None port live = refused NoSuchName live
-attach_line (Some line) port live =
+abbrev pub attach_line : Option (LineOf Peer) → ℕ → ℕ → Live → Reply
+attach_line None place port live = refused NoSuchName live
+attach_line (Some line) place port live =
     if is_some line.port then refused AlreadyAttached live
-    else if is_port port then listen_with (listening live.ahead) port live
+    else if is_port port then listen_with (listening live.ahead) place port live
     else refused OutOfRange live
 
 -- ATTACH gives the line a port that is listened on from then on
 unfoldable pub attach_port_reply : Live → ℕ → Reply
-attach_port_reply live port = attach_line (terminal_line live.lines) port live
+attach_port_reply live port = attach_line (terminal_line live.lines) terminal_place port live
 
 -- ---- DETACH, and SET of a terminal
 
@@ -96,12 +98,12 @@ with_port (Some line) reply live = if is_none line.port then refused NotAttached
 -- DETACH drops the connection, if one stands, and the port is listened on no longer
 unfoldable pub detach_port_reply : Live → Reply
 detach_port_reply live =
-    with_port (terminal_line live.lines) (goes (record live { lines = unported live.lines })) live
+    with_port (terminal_line live.lines) (goes (record live { lines = unported terminal_place live.lines })) live
 
 -- DISCONNECT drops the connection, if one stands, and the port goes on to be listened on
 unfoldable pub disconnect_reply : Live → Reply
 disconnect_reply live =
-    with_port (terminal_line live.lines) (goes (record live { lines = hung_up live.lines })) live
+    with_port (terminal_line live.lines) (goes (record live { lines = hung_up terminal_place live.lines })) live
 
 -- ---- SHOW
 

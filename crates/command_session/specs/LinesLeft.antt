@@ -6,17 +6,18 @@ use Rattle.host_lines.specs.Traffic.{Peer}
 use Rattle.host_lines.specs.declared.lines.ListenFault.{ListenFault}
 use Rattle.host_lines.specs.declared.lines.ListenFault.TheVariants as listen
 use Rattle.host_lines.specs.Told.{IsFirst, record_in}
-use Rattle.host_lines.specs.LineCalls.{Listens, ports_after, listen_faults}
 use Rattle.host_lines.specs.State.{LineState, IsListened, parties, without_one}
 use Rattle.telnet_lines.specs.Line.{LineOf, unconnected}
 use Rattle.telnet_lines.specs.Joined.{seen_line}
 use Rattle.telnet_lines.specs.Many.{AreApart}
+use Rattle.terminal_ports.specs.Ports.{HavePortsApart, OnlyOneHas}
+use Rattle.terminal_ports.specs.Listening.{IsListening}
 use Rattle.nova_machine.specs.LineChanges.{HasConnection, HearsOn}
 use Rattle.scp_parser.specs.Command.{Request, AttachPort, Restore}
 use Rattle.command_session.specs.declared.next.Next.TheVariants.{Go}
 use Rattle.command_session.specs.declared.fault.CommandFault.TheVariants.{OutOfMemory, OutOfRange, PortFailed, AlreadyAttached, NotAttached}
 use Rattle.command_session.specs.Reply.{Answer}
-use Rattle.command_session.specs.LineEffects.{is_port}
+use Rattle.command_session.specs.LineEffects.{terminal_place, is_port}
 
 -- one of the lines has that port
 abbrev pub HasPort : ℕ → List (LineOf ℕ) → Type 0
@@ -27,16 +28,23 @@ HasPort port (line ∷ lines) = (line.port ≡ Some port) ⊎ HasPort port lines
 abbrev pub AreListened : LineState → List (LineOf ℕ) → Type 0
 AreListened s lines = AllByRecursion (λ (line : LineOf ℕ). IfSome line.port (IsListened s)) lines
 
+-- The lines of a session: no two of them have one port. So far commands give a port to the second teletype alone, so each other
+-- line, that of the console too, has none.
+pub record AreSessionLines {P : Type 0} (lines : List (LineOf P)) : Type 0 where
+  pub apart : HavePortsApart lines
+  pub others : OnlyOneHas terminal_place lines
+
 -- What a call leaves: each port that is listened on and each connection that stands is one that a line has, or was there
--- before and no line's; the count of faults has not fallen. Where the machine has one line at the most, its port is listened
--- on if it was before. Where the outside tells what comes, what callers had heard stays in front of what they hear then; and
+-- before and no line's; the count of faults has not fallen. Lines of a session stay such, and then the port of each line is
+-- listened on if those of all lines were before. Where the outside tells what comes, what callers had heard stays in front of what they hear then; and
 -- where no two lines have one connection, none have then, and a record of answers has grown at its end.
 pub record LinesLeft (tells : Bool) (old : LineState) (before : List (LineOf ℕ)) (new : LineState) (after : List (LineOf ℕ)) : Type 0 where
   pub ports : (port : ℕ) → IsTrue (new.listens port) → HasPort port after ⊎ (IsTrue (old.listens port) × (¬ HasPort port before))
   pub owned : (conn : ℕ) → IsTrue (new.stands conn) → HasConnection conn after ⊎ (IsTrue (old.stands conn) × (¬ HasConnection conn before))
   pub later : old.faults ≤ new.faults
   pub many : length after ≡ length before
-  pub listened : length before ≤ 1 → AreListened old before → AreListened new after
+  pub session : AreSessionLines before → AreSessionLines after
+  pub listened : AreSessionLines before → AreListened old before → AreListened new after
   pub told : IsTrue tells → AreApart old before → AreApart new after × IsFirst (record_in old.told) (record_in new.told)
   pub heard : IsTrue tells → HearsOn old.sent new.sent
 
@@ -70,15 +78,6 @@ pub record NotListened (count : ℕ) (old new : LineState) : Type 0 where
   pub behind : parties new ≡ parties old
   pub sent : new.sent ≡ old.sent
   pub counted : new.faults ≡ count
-
--- a port is listened on from then on, or is not
-pub record Listened (tells : Bool) (port : ℕ) (result : Result (Unit {0}) ListenFault) (old new : LineState) : Type 0 where
-  pub told : IsTrue tells → Listens old.told new.told result
-  pub listens : new.listens ≡ ports_after port result old.listens
-  pub stands : new.stands ≡ old.stands
-  pub behind : parties new ≡ parties old
-  pub sent : new.sent ≡ old.sent
-  pub counted : new.faults ≡ listen_faults result old.faults
 
 -- a port was not listened on, or memory ran out before
 abbrev pub Unlistened : Answer → Type 0
@@ -119,7 +118,7 @@ pub record Tried (tells : Bool) (port : ℕ) (answer : Answer) (old : LineState)
   pub result : Result (Unit {0}) ListenFault
   pub answer_is : answer ≡ listened_answer result
   pub line_is : after ≡ listened_line port result before
-  pub listened : Listened tells port result old new
+  pub listened : IsListening tells port result old new
 
 -- Nothing was asked of the outside, and the line is as it was.
 pub record Untried (answer is : Answer) (old : LineState) (before : LineOf ℕ) (new : LineState) (after : LineOf ℕ) : Type 0 where

@@ -1,11 +1,11 @@
 -- What the answer to a command says of the port of the second teletype, whether the outside tells what comes or not.
-use Rattle.std.specs.Prelude.{◌≡◌, ℕ, Bool, true, false, List, [], ◌∷◌, Option, Some, None, IsSome, Ok, Err}
+use Rattle.std.specs.Prelude.{◌≡◌, ℕ, Bool, true, false, List, slice_get, slice_set, Option, Some, None, IsSome, Ok, Err}
 use Rattle.unit_trait.specs.declared.kind.UnitName.{UnitName}
 use Rattle.host_lines.specs.State.{LineState}
 use Rattle.telnet_lines.specs.Line.{LineOf}
 use Rattle.command_session.specs.declared.fault.CommandFault.TheVariants.{NoSuchName}
 use Rattle.command_session.specs.Reply.{Answer}
-use Rattle.command_session.specs.LineEffects.{is_terminal, closed, hung}
+use Rattle.command_session.specs.LineEffects.{is_terminal, terminal_place, closed, hung}
 use Rattle.command_session.specs.LinesLeft.{GivesUp, attaches_by, needs_port}
 
 -- Nothing was asked of the outside, and the lines are as they were.
@@ -18,38 +18,53 @@ pub record Lineless (answer : Answer) (old : LineState) (before : List (LineOf �
   pub answer_is : answer ≡ Err NoSuchName
   pub stay : LinesStay old before new after
 
--- The first line came to this, by the answer of an ATTACH; all others are as they were.
-pub record AttachesFirst (tells : Bool) (port : ℕ) (answer : Answer) (old : LineState) (line : LineOf ℕ) (others : List (LineOf ℕ)) (new : LineState) (after : List (LineOf ℕ)) : Type 0 where
+-- The line at a place came to this, by the answer of an ATTACH; all others are as they were.
+pub record AttachesAt (place : ℕ) (tells : Bool) (port : ℕ) (answer : Answer) (old : LineState) (before : List (LineOf ℕ)) (line : LineOf ℕ) (new : LineState) (after : List (LineOf ℕ)) : Type 0 where
   pub changed : LineOf ℕ
-  pub lines : after ≡ changed ∷ others
+  pub lines : after ≡ slice_set before place changed
   pub attaches : attaches_by line.port tells port answer old line new changed
+
+abbrev pub attaches_at : ℕ → Option (LineOf ℕ) → Bool → ℕ → Answer → LineState → List (LineOf ℕ) → LineState → List (LineOf ℕ) → Type 0
+attaches_at place None tells port answer old before new after = Lineless answer old before new after
+attaches_at place (Some line) tells port answer old before new after = AttachesAt place tells port answer old before line new after
 
 -- ATTACH of a port
 abbrev pub AttachesPort : Bool → ℕ → Answer → LineState → List (LineOf ℕ) → LineState → List (LineOf ℕ) → Type 0
-AttachesPort tells port answer old [] new after = Lineless answer old [] new after
-AttachesPort tells port answer old (line ∷ others) new after = AttachesFirst tells port answer old line others new after
+AttachesPort tells port answer old before new after =
+    attaches_at terminal_place (slice_get before terminal_place) tells port answer old before new after
 
--- The first line came to this, and all others are as they were. Where it had a port, that port was given up, if one was
+-- The line at a place came to this, and all others are as they were. Where it had a port, that port was given up, if one was
 -- to be, and its connection ended; else nothing was asked of the outside.
-pub record DropsFirst (changed : LineOf ℕ) (given : Option ℕ) (old : LineState) (line : LineOf ℕ) (others : List (LineOf ℕ)) (new : LineState) (after : List (LineOf ℕ)) : Type 0 where
-  pub lines : after ≡ changed ∷ others
+pub record DropsAt (place : ℕ) (changed : LineOf ℕ) (given : Option ℕ) (old : LineState) (before : List (LineOf ℕ)) (line : LineOf ℕ) (new : LineState) (after : List (LineOf ℕ)) : Type 0 where
+  pub lines : after ≡ slice_set before place changed
   pub none : line.port ≡ None → new ≡ old
   pub outside : IsSome line.port → GivesUp given line.connection old new
 
+abbrev pub detaches_at : ℕ → Option (LineOf ℕ) → Answer → LineState → List (LineOf ℕ) → LineState → List (LineOf ℕ) → Type 0
+detaches_at place None answer old before new after = Lineless answer old before new after
+detaches_at place (Some line) answer old before new after =
+    (answer ≡ needs_port line.port) × DropsAt place (closed line) line.port old before line new after
+
 -- DETACH of the second teletype
 abbrev pub DetachesPort : Answer → LineState → List (LineOf ℕ) → LineState → List (LineOf ℕ) → Type 0
-DetachesPort answer old [] new after = Lineless answer old [] new after
-DetachesPort answer old (line ∷ others) new after = (answer ≡ needs_port line.port) × DropsFirst (closed line) line.port old line others new after
+DetachesPort answer old before new after = detaches_at terminal_place (slice_get before terminal_place) answer old before new after
+
+abbrev pub disconnects_at : ℕ → Option (LineOf ℕ) → Answer → LineState → List (LineOf ℕ) → LineState → List (LineOf ℕ) → Type 0
+disconnects_at place None answer old before new after = Lineless answer old before new after
+disconnects_at place (Some line) answer old before new after =
+    (answer ≡ needs_port line.port) × DropsAt place (hung line) None old before line new after
 
 -- SET of it
 abbrev pub Disconnects : Answer → LineState → List (LineOf ℕ) → LineState → List (LineOf ℕ) → Type 0
-Disconnects answer old [] new after = Lineless answer old [] new after
-Disconnects answer old (line ∷ others) new after = (answer ≡ needs_port line.port) × DropsFirst (hung line) None old line others new after
+Disconnects answer old before new after = disconnects_at terminal_place (slice_get before terminal_place) answer old before new after
+
+abbrev pub closes_at : ℕ → Option (LineOf ℕ) → LineState → List (LineOf ℕ) → LineState → List (LineOf ℕ) → Type 0
+closes_at place None old before new after = LinesStay old before new after
+closes_at place (Some line) old before new after = DropsAt place (closed line) line.port old before line new after
 
 -- the port of the second teletype is given up, where it has one
 abbrev pub ClosesPort : LineState → List (LineOf ℕ) → LineState → List (LineOf ℕ) → Type 0
-ClosesPort old [] new after = LinesStay old [] new after
-ClosesPort old (line ∷ others) new after = DropsFirst (closed line) line.port old line others new after
+ClosesPort old before new after = closes_at terminal_place (slice_get before terminal_place) old before new after
 
 -- DETACH ALL and EXIT, where they are done; where they are refused, a unit has kept its file, and the teletype its port
 abbrev pub ClosesAll : Answer → LineState → List (LineOf ℕ) → LineState → List (LineOf ℕ) → Type 0

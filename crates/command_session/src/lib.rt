@@ -16,7 +16,7 @@ pub mod whole_notes;
 pub use counts::{MOST_INSTRUCTIONS, is_count};
 pub use do_file::{DoFile, ScriptText};
 pub use fault::CommandFault;
-pub use line_ports::{close, hang_up, listen};
+pub use line_ports::{close, hang_up};
 pub use next::{Next, told_or_console};
 pub use session::Session;
 pub use stamps::stamp_of;

@@ -1,29 +1,12 @@
-// The port of a terminal line: it is listened on, or given up, and its connection is dropped.
-ghost use Rattle.std.specs.Prelude.{◌≡◌, IsTrue, IsSome, Some, None, OnOk, OnErr};
+// The port of a terminal line is given up, and its connection is dropped.
+ghost use Rattle.std.specs.Prelude.{◌≡◌, IsTrue, IsSome, None};
 ghost use Rattle.telnet_lines.specs.Line.{unconnected};
 ghost use Rattle.telnet_lines.specs.Joined.{KeepsParties};
 ghost use Rattle.command_session.specs.LineEffects.{closed};
-ghost use Rattle.command_session.specs.LinesLeft.{GivesUp, Listened};
+ghost use Rattle.command_session.specs.LinesLeft.{GivesUp};
 
-use host_lines::{Lines, ListenFault};
-use std::alloc::Global;
+use host_lines::Lines;
 use telnet_lines::Line;
-
-/// Listens on a port for a line that has none.
-pub fn listen<L: Lines>(
-    alloc: Global,
-    line: &mut Line,
-    port: u16,
-    lines: &mut L,
-) -> Result<(), ListenFault>
-    ensures ok { OnOk result (line.new ≡ unconnected (Some port)) }
-    ensures refused { OnErr result (line.new ≡ line.old) }
-    ensures outside { Listened L.tells port result (L.state lines.old) (L.state lines.new) }
-{
-    lines.listen(alloc, port)?;
-    line.set_port(Some(port));
-    Ok(())
-}
 
 /// Ends the connection of a line, where one stands. The line keeps its port.
 pub fn hang_up<L: Lines>(line: &mut Line, lines: &mut L)

@@ -3,5 +3,6 @@ mod calls;
 mod cutting;
 mod output;
 mod polls;
+mod rows;
 mod streams;
 mod texts;

@@ -21,10 +21,11 @@ ghost use Rattle.command_session.specs.Refusals.{IsUnrefused};
 ghost use Rattle.command_session.specs.Answers.{OfLine, OfPort};
 ghost use Rattle.command_session.specs.Doing.{Does, IsOfPort, IsPlain, IsExitAnswer, IsRefused};
 
-use command_session::{CommandFault, Next, Session, TERMINAL, close, hang_up, listen};
+use command_session::{CommandFault, Next, Session, TERMINAL, close, hang_up};
 use host_lines::{Lines, ListenFault};
 use std::alloc::Global;
 use telnet_lines::Line;
+use terminal_ports::listen_for;
 use unit_trait::Unit;
 
 /// ATTACH listens on a port, from 1 to 65535, for the second teletype. It prints nothing.
@@ -151,7 +152,7 @@ fn attach_line<L: Lines>(
         return Err(CommandFault::AlreadyAttached);
     }
     match u16::try_from(port) {
-        Ok(port @ 1..) => match listen(alloc, line, port, lines) {
+        Ok(port @ 1..) => match listen_for(alloc, line, port, lines) {
             Ok(()) => Ok(Next::Go),
             Err(ListenFault::Failed) => Err(CommandFault::PortFailed),
             Err(ListenFault::OutOfMemory) => Err(CommandFault::OutOfMemory),

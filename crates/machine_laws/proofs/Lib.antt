@@ -2,6 +2,7 @@ pub mod RunLaws
 pub mod SameRunLemmas
 pub mod Whiles
 pub mod WordsBack
+pub mod Ports
 pub mod Shapes
 pub mod ValidBytes
 pub mod ValidMemory

@@ -1,6 +1,7 @@
--- A turn and a run keep of which kinds the units are, what is attached, and how many lines there are.
-use Rattle.std.proofs.Common.{◌≡◌, inl, inr, ℕ, Bool, List, [], length, slice_get, slice_set, Option, Some, None, option_map, Result, Ok, Err, refl, sym, subst, ◌∙◌}
+-- A turn and a run keep of which kinds the units are, what is attached, how many lines there are, and which port each has.
+use Rattle.std.proofs.Common.{◌≡◌, inl, inr, ap, ℕ, zero, suc, Bool, List, [], ◌∷◌, length, slice_get, slice_set, Option, Some, None, option_map, Result, Ok, Err, refl, sym, subst, ◌∙◌}
 use Rattle.std.proofs.lemmas.List.{length-set}
+use Rattle.std.proofs.lemmas.Option.{same_Some}
 use Rattle.observations.specs.Observations.{Observation, StandsAt}
 use Rattle.observations.proofs.MadeLemmas.{stands-either}
 use Rattle.host_lines.specs.Traffic.{Peer, Ahead}
@@ -20,21 +21,23 @@ use Rattle.memory_transfer.specs.Tapes.{NoAnswer}
 use Rattle.nova_machine.specs.Seen.{Seen, with_machine}
 use Rattle.nova_machine.specs.Parts.{Part, silent, behind_made, followed}
 use Rattle.nova_machine.specs.Turned.{Turned, still}
+use Rattle.nova_machine.specs.LineChanges.{ports_of}
 use Rattle.nova_machine.specs.OnLines.{Lined, lined_by, put_line, put_got, lined, sends}
 use Rattle.nova_machine.specs.Wants.{prints}
 use Rattle.nova_machine.specs.Service.{asked, answered, hosted, replied, own_service, behind_line, line_service, service, taken, lined_at, want_at}
 use Rattle.nova_machine.specs.Turn.{breaks_tested, turn}
 use Rattle.nova_machine.specs.Run.{run}
 use Rattle.machine_laws.specs.ValidLaws.{StaysAs, KeepsShape}
+use Rattle.machine_laws.proofs.Ports.{polled-port, put-port}
 use Rattle.nova_machine.proofs.Walks.{OfTurns, OfRuns, walk-turn, walk-run}
 use Rattle.nova_machine.proofs.EachService.{each-service, sends-nowhere}
 use Rattle.nova_machine.proofs.Leaves.{Leaves, leaves-fetch, leaves-interrupt}
 
 stays : (s : Seen) → StaysAs s s
-stays s = record { kinds = refl; slots = refl; own = refl; aside = refl; count = refl }
+stays s = record { kinds = refl; slots = refl; own = refl; aside = refl; count = refl; ports = refl }
 
 stays-then : (s t u : Seen) → StaysAs s t → StaysAs t u → StaysAs s u
-stays-then s t u one two = record { kinds = two.kinds ∙ one.kinds; slots = two.slots ∙ one.slots; own = two.own ∙ one.own; aside = two.aside ∙ one.aside; count = two.count ∙ one.count }
+stays-then s t u one two = record { kinds = two.kinds ∙ one.kinds; slots = two.slots ∙ one.slots; own = two.own ∙ one.own; aside = two.aside ∙ one.aside; count = two.count ∙ one.count; ports = two.ports ∙ one.ports }
 
 -- nothing is made, or what is made comes where the shape is as it was
 keeps-silent : (stop : Option Stop) (s t : Seen) → StaysAs s t → KeepsShape s (silent stop t)
@@ -60,40 +63,57 @@ keeps-then s p goes_on first more = keeps-followed s p.made p.stop p.after goes_
 
 -- ---- a service
 
-lined-count : (time : ℕ) (w : Want) (lines : List (LineOf Peer)) (ahead : Ahead) (l : Lined) → lined time w lines ahead ≡ Some l → length l.lines ≡ length lines
+-- one line of several in place of another, with the same port
+ports-set : (i : ℕ) (lines : List (LineOf Peer)) (line after : LineOf Peer) → slice_get lines i ≡ Some line → after.port ≡ line.port → ports_of (slice_set lines i after) ≡ ports_of lines
+ports-set i [] line after at same = refl
+ports-set zero (l ∷ lines) line after at same =
+    let is : l ≡ line = same_Some l line at in
+    ap (λ (p : Option ℕ). p ∷ ports_of lines) (same ∙ ap (λ (x : LineOf Peer). x.port) (sym is))
+ports-set (suc i) (l ∷ lines) line after at same = ap (λ (ps : List (Option ℕ)). l.port ∷ ps) (ports-set i lines line after at same)
+
+-- as many lines as before, with the same ports
+record SameLines (before after : List (LineOf Peer)) : Type 0 where
+  pub count : length after ≡ length before
+  pub ports : ports_of after ≡ ports_of before
+
+set-same : (i : ℕ) (lines : List (LineOf Peer)) (line after : LineOf Peer) → slice_get lines i ≡ Some line → after.port ≡ line.port → SameLines lines (slice_set lines i after)
+set-same i lines line after at same = record { count = length-set lines i after; ports = ports-set i lines line after at same }
+
+lined-same : (time : ℕ) (w : Want) (lines : List (LineOf Peer)) (ahead : Ahead) (l : Lined) → lined time w lines ahead ≡ Some l → SameLines lines l.lines
 unfolding lined
-lined-count time (want.LineKey n) lines ahead l there = by (slice_get lines n) there
+lined-same time (want.LineKey n) lines ahead l there = by (slice_get lines (suc n)) refl there
   where
-    by : (o : Option (LineOf Peer)) → option_map (λ line. lined_by n lines (polled time line ahead)) o ≡ Some l → length l.lines ≡ length lines
-    by None there = absurd (cc)
-    by (Some line) there =
-        let same : lined_by n lines (polled time line ahead) ≡ l = cc in
-        subst (λ (x : Lined). length x.lines ≡ length lines) same (length-set lines n (polled time line ahead).line)
-lined-count time (want.LinePut n byte) lines ahead l there = by (slice_get lines n) there
+    by : (o : Option (LineOf Peer)) → slice_get lines (suc n) ≡ o → option_map (λ line. lined_by (suc n) lines (polled time line ahead)) o ≡ Some l → SameLines lines l.lines
+    by None at there = absurd (cc)
+    by (Some line) at there =
+        let same : lined_by (suc n) lines (polled time line ahead) ≡ l = cc in
+        subst (λ (x : Lined). SameLines lines x.lines) same (set-same (suc n) lines line (polled time line ahead).line at (polled-port time line ahead))
+lined-same time (want.LinePut n byte) lines ahead l there = by (slice_get lines (suc n)) refl there
   where
-    by : (o : Option (LineOf Peer)) → option_map (λ line. record { got = put_got line; sent = []; lines = slice_set lines n (put_line byte line); ahead = ahead }) o ≡ Some l
-        → length l.lines ≡ length lines
-    by None there = absurd (cc)
-    by (Some line) there =
-        let done : Lined = record { got = put_got line; sent = []; lines = slice_set lines n (put_line byte line); ahead = ahead } in
+    by : (o : Option (LineOf Peer)) → slice_get lines (suc n) ≡ o
+        → option_map (λ line. record { got = put_got line; sent = []; lines = slice_set lines (suc n) (put_line byte line); ahead = ahead }) o ≡ Some l
+        → SameLines lines l.lines
+    by None at there = absurd (cc)
+    by (Some line) at there =
+        let done : Lined = record { got = put_got line; sent = []; lines = slice_set lines (suc n) (put_line byte line); ahead = ahead } in
         let same : done ≡ l = cc in
-        subst (λ (x : Lined). length x.lines ≡ length lines) same (length-set lines n (put_line byte line))
-lined-count time w lines ahead l there = absurd (cc)
+        subst (λ (x : Lined). SameLines lines x.lines) same (set-same (suc n) lines line (put_line byte line) at (put-port byte line))
+lined-same time w lines ahead l there = absurd (cc)
 
 -- the machine was asked, or was answered
 stays-asked : (u : UnitName) (s : Seen) → StaysAs s (with_machine s (asked u s.machine))
 unfolding asked
-stays-asked u s = record { kinds = after-kinds (code_of u.kind) (Due u.unit) s.machine.units; slots = refl; own = refl; aside = refl; count = refl }
+stays-asked u s = record { kinds = after-kinds (code_of u.kind) (Due u.unit) s.machine.units; slots = refl; own = refl; aside = refl; count = refl; ports = refl }
 
 keeps-replied : (u : UnitName) (stop : Option Stop) (answer : Result Got NoAnswer) (s : Seen) → KeepsShape s (replied u stop answer s)
 unfolding answered
 keeps-replied u stop (Ok g) s =
-    keeps-silent _ s _ (record { kinds = after-kinds (code_of u.kind) (Answered u.unit g) s.machine.units; slots = refl; own = refl; aside = refl; count = refl })
+    keeps-silent _ s _ (record { kinds = after-kinds (code_of u.kind) (Answered u.unit g) s.machine.units; slots = refl; own = refl; aside = refl; count = refl; ports = refl })
 keeps-replied u stop (Err why) s = keeps-silent _ s s (stays s)
 
 stays-hosted : (fault : Option Failure) (u : UnitName) (s : Seen) → StaysAs s (hosted fault u s)
 unfolding hosted asked
-stays-hosted fault u s = record { kinds = after-kinds (code_of u.kind) (Due u.unit) s.machine.units; slots = refl; own = refl; aside = refl; count = refl }
+stays-hosted fault u s = record { kinds = after-kinds (code_of u.kind) (Due u.unit) s.machine.units; slots = refl; own = refl; aside = refl; count = refl; ports = refl }
 
 stays-printing : (w : Want) (s t u : Seen) → StaysAs s t → StandsAt u (prints w t) → StaysAs s u
 stays-printing (want.Console byte) s t u is (inl same) = subst (λ (x : Seen). StaysAs s x) (sym same) is
@@ -114,7 +134,8 @@ stays-lined u l s there = record {
   slots = refl;
   own = refl;
   aside = refl;
-  count = lined-count s.machine.time (want_at u s.machine) s.lines s.ahead l there;
+  count = (lined-same s.machine.time (want_at u s.machine) s.lines s.ahead l there).count;
+  ports = (lined-same s.machine.time (want_at u s.machine) s.lines s.ahead l there).ports;
 }
 
 keeps-line : (u : UnitName) (l : Lined) (s : Seen) → lined_at u s ≡ Some l → KeepsShape s (line_service u l s)
@@ -125,17 +146,17 @@ keeps-line u l s there =
 
 keeps-service : (fault : Option Failure) (u : UnitName) (s : Seen) → KeepsShape s (service fault u (taken s))
 keeps-service fault u s =
-    keeps-from s (taken s) _ (record { kinds = refl; slots = refl; own = refl; aside = refl; count = refl })
+    keeps-from s (taken s) _ (record { kinds = refl; slots = refl; own = refl; aside = refl; count = refl; ports = refl })
     (each-service (KeepsShape (taken s)) fault u (taken s) (keeps-own fault u (taken s)) (λ l there. keeps-line u l (taken s) there))
 
 -- ---- a turn, and a run
 
 keeps-still : (s : Seen) (t : Turned) → Leaves s.machine t.machine → KeepsShape s (still s t)
-keeps-still s t leaves = keeps-silent _ s _ (record { kinds = leaves.kinds; slots = leaves.slots; own = leaves.lines; aside = leaves.aside; count = refl })
+keeps-still s t leaves = keeps-silent _ s _ (record { kinds = leaves.kinds; slots = leaves.slots; own = leaves.lines; aside = leaves.aside; count = refl; ports = refl })
 
 keeps-tested : (s : Seen) → KeepsShape s (breaks_tested s)
 unfolding breaks_tested
-keeps-tested s = keeps-silent _ s _ (record { kinds = refl; slots = refl; own = refl; aside = refl; count = refl })
+keeps-tested s = keeps-silent _ s _ (record { kinds = refl; slots = refl; own = refl; aside = refl; count = refl; ports = refl })
 
 of-turns : OfTurns KeepsShape
 of-turns = record {

@@ -320,25 +320,25 @@ got-put n byte line = cond_both (is_full line) got.LineFull got.Done (λ (g : Go
 pub lined-valid : (time : ℕ) (w : Want) (lines : List (LineOf Peer)) (ahead : Ahead) (l : Lined) → WritesByte w → AllByRecursion ValidLine lines → ValidAhead ahead
     → lined time w lines ahead ≡ Some l → ValidLined w l
 unfolding lined
-lined-valid time (want.LineKey n) lines ahead l byte all coming there = by (slice_get lines n) (every-found ValidLine lines n all) there
+lined-valid time (want.LineKey n) lines ahead l byte all coming there = by (slice_get lines (suc n)) (every-found ValidLine lines (suc n) all) there
   where
-    by : (o : Option (LineOf Peer)) → IfSome o ValidLine → option_map (λ line. lined_by n lines (polled time line ahead)) o ≡ Some l → ValidLined (want.LineKey n) l
+    by : (o : Option (LineOf Peer)) → IfSome o ValidLine → option_map (λ line. lined_by (suc n) lines (polled time line ahead)) o ≡ Some l → ValidLined (want.LineKey n) l
     by None valid there = absurd (cc)
     by (Some line) valid there =
         let p = polled-valid time line ahead valid coming in
-        let same : lined_by n lines (polled time line ahead) ≡ l = cc in
+        let same : lined_by (suc n) lines (polled time line ahead) ≡ l = cc in
         subst (ValidLined (want.LineKey n)) same
-        (record { got = got-key n (polled time line ahead).key p.key; lines = every-set ValidLine lines n (polled time line ahead).line p.line all; ahead = p.ahead })
-lined-valid time (want.LinePut n byte) lines ahead l low all coming there = by (slice_get lines n) (every-found ValidLine lines n all) there
+        (record { got = got-key n (polled time line ahead).key p.key; lines = every-set ValidLine lines (suc n) (polled time line ahead).line p.line all; ahead = p.ahead })
+lined-valid time (want.LinePut n byte) lines ahead l low all coming there = by (slice_get lines (suc n)) (every-found ValidLine lines (suc n) all) there
   where
     by : (o : Option (LineOf Peer)) → IfSome o ValidLine
-        → option_map (λ line. record { got = put_got line; sent = []; lines = slice_set lines n (put_line byte line); ahead = ahead }) o ≡ Some l → ValidLined (want.LinePut n byte) l
+        → option_map (λ line. record { got = put_got line; sent = []; lines = slice_set lines (suc n) (put_line byte line); ahead = ahead }) o ≡ Some l → ValidLined (want.LinePut n byte) l
     by None valid there = absurd (cc)
     by (Some line) valid there =
-        let done : Lined = record { got = put_got line; sent = []; lines = slice_set lines n (put_line byte line); ahead = ahead } in
+        let done : Lined = record { got = put_got line; sent = []; lines = slice_set lines (suc n) (put_line byte line); ahead = ahead } in
         let same : done ≡ l = cc in
         subst (ValidLined (want.LinePut n byte)) same
-        (record { got = got-put n byte line; lines = every-set ValidLine lines n (put_line byte line) (put-valid byte line low valid) all; ahead = coming })
+        (record { got = got-put n byte line; lines = every-set ValidLine lines (suc n) (put_line byte line) (put-valid byte line low valid) all; ahead = coming })
 lined-valid time w lines ahead l byte all coming there = absurd (cc)
 
 -- ---- the beginning
@@ -350,7 +350,7 @@ lines-begin s (suc count) = (unconnected-valid None tt, lines-begin s count)
 -- the lines of a new machine
 pub new-lines : (s : LineState) (us : List UnitState) → AllByRecursion ValidLine (map (seen_line s) (new_machine us).lines)
 unfolding new_machine reset_machine reset_devices
-new-lines s us = lines-begin s (line_count us)
+new-lines s us = (unconnected-valid None tt, lines-begin s (line_count us))
 
 -- a settled line with such a port that holds bytes, whoever is behind its connection
 pub settled-valid : (s : LineState) (line : LineOf ℕ) → IsSettled line → IfSome line.port IsPort → AreBytes line.keys → AreBytes line.output → ValidLine (seen_line s line)

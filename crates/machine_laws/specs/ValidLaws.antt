@@ -15,6 +15,7 @@ use Rattle.unit_files.specs.Attachments.{Attachment, attachment_at}
 use Rattle.unit_files.specs.Buffer.{disk_unit}
 use Rattle.expect_actions.specs.Watch.{empty_watch}
 use Rattle.nova_machine.specs.declared.machine.Stop.{Stop}
+use Rattle.nova_machine.specs.LineChanges.{ports_of}
 use Rattle.nova_machine.specs.Machine.{new_machine}
 use Rattle.nova_machine.specs.Notes.{UnitNote, RunNote}
 use Rattle.nova_machine.specs.Seen.{Seen, attached_in}
@@ -53,14 +54,15 @@ pub record KeepsCopy (s : Seen) (p : Part) : Type 0 where
   -- and the file has them, where no other unit has it
   pub alone : DiskHasOwnFile s → LeavesDiskFile s p.after
 
--- one state has the shape of another: units of the same kinds, the same attachments, and as many lines; beside what is seen of
--- the lines, a machine has none of its own, and nothing is kept beside the disk's copy
+-- one state has the shape of another: units of the same kinds, the same attachments, and as many lines with the same ports;
+-- beside what is seen of the lines, a machine has none of its own, and nothing is kept beside the disk's copy
 pub record StaysAs (s t : Seen) : Type 0 where
   pub kinds : kinds_of t.machine.units ≡ kinds_of s.machine.units
   pub slots : t.machine.slots ≡ s.machine.slots
   pub own : t.machine.lines ≡ s.machine.lines
   pub aside : t.machine.aside ≡ s.machine.aside
   pub count : length t.lines ≡ length s.lines
+  pub ports : ports_of t.lines ≡ ports_of s.lines
 
 -- so it is behind a part, and where something comes
 pub record KeepsShape (s : Seen) (p : Part) : Type 0 where

@@ -27,7 +27,7 @@ use Rattle.expect_actions.specs.KeysFile.{due_key}
 use Rattle.host_lines.specs.Traffic.{Answer, Peer}
 use Rattle.host_lines.specs.State.{LineState}
 use Rattle.nova_machine.specs.declared.machine.Stop.TheVariants.{ChainLimit}
-use Rattle.nova_machine.specs.Machine.{MachineState}
+use Rattle.nova_machine.specs.Machine.{MachineState, place_of}
 use Rattle.nova_machine.specs.Notes.{UnitNote, RunNote, at_time, at_unit}
 use Rattle.nova_machine.specs.Seen.{Seen, seen, beside, erased, with_machine}
 use Rattle.nova_machine.specs.Parts.{Part, silent, then_part}
@@ -183,9 +183,10 @@ unfolding idle_behind idled_by
 idle-is period count m q = refl
 
 -- the lines are seen with who is behind them: one without a port is the same
-closed-seen : (b : LineState) (lines : List (LineOf ℕ)) → slice_get lines 0 ≡ Some (unconnected None) → slice_get (map (seen_line b) lines) 0 ≡ Some (unconnected None)
+closed-seen : (b : LineState) (lines : List (LineOf ℕ)) → slice_get lines (place_of 0) ≡ Some (unconnected None) → slice_get (map (seen_line b) lines) (place_of 0) ≡ Some (unconnected None)
 closed-seen b [] is = absurd (cc)
-closed-seen b (line ∷ lines) is =
+closed-seen b (first ∷ []) is = absurd (cc)
+closed-seen b (first ∷ line ∷ lines) is =
     let same : line ≡ unconnected None = grind arith in ap (λ (l : LineOf ℕ). Some (seen_line b l)) same
 
 unheard-seen : (b : LineState) (lines : List (LineOf ℕ)) (k : Kind) → IsUnheard k lines → IsUnheard k (map (seen_line b) lines)

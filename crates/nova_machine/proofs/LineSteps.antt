@@ -188,24 +188,24 @@ unlined : (time : ℕ) (w : Want) (s : LineState) (lines : List (LineOf ℕ)) (w
 unlined time w s lines whole none =
     subst (λ (l : Option Lined). DoneOnLine l None whole s s lines) (sym none) (record { answers = refl; lines = tt; ahead = tt; heard = tt })
 
-no-key : (time n : ℕ) (lines : List (LineOf Peer)) (ahead : Ahead) → slice_get lines n ≡ None → lined time (want.LineKey n) lines ahead ≡ None
+no-key : (time n : ℕ) (lines : List (LineOf Peer)) (ahead : Ahead) → slice_get lines (suc n) ≡ None → lined time (want.LineKey n) lines ahead ≡ None
 unfolding lined
-no-key time n lines ahead none = ap (option_map (λ line. lined_by n lines (polled time line ahead))) none
+no-key time n lines ahead none = ap (option_map (λ line. lined_by (suc n) lines (polled time line ahead))) none
 
-no-put : (time n byte : ℕ) (lines : List (LineOf Peer)) (ahead : Ahead) → slice_get lines n ≡ None → lined time (want.LinePut n byte) lines ahead ≡ None
+no-put : (time n byte : ℕ) (lines : List (LineOf Peer)) (ahead : Ahead) → slice_get lines (suc n) ≡ None → lined time (want.LinePut n byte) lines ahead ≡ None
 unfolding lined
 no-put time n byte lines ahead none =
-    ap (option_map (λ (line : LineOf Peer). record { got = put_got line; sent = []; lines = slice_set lines n (put_line byte line); ahead = ahead })) none
+    ap (option_map (λ (line : LineOf Peer). record { got = put_got line; sent = []; lines = slice_set lines (suc n) (put_line byte line); ahead = ahead })) none
 
-pub done-no-key : (time n : ℕ) (s : LineState) (lines : List (LineOf ℕ)) (whole : List Answer) → slice_get lines n ≡ None
+pub done-no-key : (time n : ℕ) (s : LineState) (lines : List (LineOf ℕ)) (whole : List Answer) → slice_get lines (suc n) ≡ None
     → DoneOnLine (lined time (want.LineKey n) (map (seen_line s) lines) (ahead_of s.told whole)) None whole s s lines
 done-no-key time n s lines whole none =
-    unlined time (want.LineKey n) s lines whole (no-key time n (map (seen_line s) lines) (ahead_of s.told whole) (seen-at s lines n None none))
+    unlined time (want.LineKey n) s lines whole (no-key time n (map (seen_line s) lines) (ahead_of s.told whole) (seen-at s lines (suc n) None none))
 
-pub done-no-put : (time n byte : ℕ) (s : LineState) (lines : List (LineOf ℕ)) (whole : List Answer) → slice_get lines n ≡ None
+pub done-no-put : (time n byte : ℕ) (s : LineState) (lines : List (LineOf ℕ)) (whole : List Answer) → slice_get lines (suc n) ≡ None
     → DoneOnLine (lined time (want.LinePut n byte) (map (seen_line s) lines) (ahead_of s.told whole)) None whole s s lines
 done-no-put time n byte s lines whole none =
-    unlined time (want.LinePut n byte) s lines whole (no-put time n byte (map (seen_line s) lines) (ahead_of s.told whole) (seen-at s lines n None none))
+    unlined time (want.LinePut n byte) s lines whole (no-put time n byte (map (seen_line s) lines) (ahead_of s.told whole) (seen-at s lines (suc n) None none))
 
 -- wants that are for no line
 abbrev pub IsOnLine : Want → Type 0
@@ -224,24 +224,24 @@ pub done-plain : (time : ℕ) (w : Want) (s : LineState) (lines : List (LineOf �
 done-plain time w s lines whole plain = unlined time w s lines whole (plain-want time w (map (seen_line s) lines) (ahead_of s.told whole) plain)
 
 -- the key of a poll
-key-lined : (time n : ℕ) (s : LineState) (lines : List (LineOf ℕ)) (line : LineOf ℕ) (whole : List Answer) → slice_get lines n ≡ Some line
+key-lined : (time n : ℕ) (s : LineState) (lines : List (LineOf ℕ)) (line : LineOf ℕ) (whole : List Answer) → slice_get lines (suc n) ≡ Some line
     → lined time (want.LineKey n) (map (seen_line s) lines) (ahead_of s.told whole)
-    ≡ Some (lined_by n (map (seen_line s) lines) (polled time (seen_line s line) (ahead_of s.told whole)))
+    ≡ Some (lined_by (suc n) (map (seen_line s) lines) (polled time (seen_line s line) (ahead_of s.told whole)))
 unfolding lined
 key-lined time n s lines line whole there =
-    ap (option_map (λ line. lined_by n (map (seen_line s) lines) (polled time line (ahead_of s.told whole)))) (seen-at s lines n (Some line) there)
+    ap (option_map (λ line. lined_by (suc n) (map (seen_line s) lines) (polled time line (ahead_of s.told whole)))) (seen-at s lines (suc n) (Some line) there)
 
 pub done-key : (time n : ℕ) (old new : LineState) (lines : List (LineOf ℕ)) (before after : LineOf ℕ) (key : Option ℕ) (whole : List Answer)
-    → slice_get lines n ≡ Some before → AreApart old lines → Polls time key old before new after → KeepsParties old before new after
+    → slice_get lines (suc n) ≡ Some before → AreApart old lines → Polls time key old before new after → KeepsParties old before new after
     → IsFirst (record_in new.told) whole
-    → DoneOnLine (lined time (want.LineKey n) (map (seen_line old) lines) (ahead_of old.told whole)) (Some (got_of_line key)) whole old new (slice_set lines n after)
+    → DoneOnLine (lined time (want.LineKey n) (map (seen_line old) lines) (ahead_of old.told whole)) (Some (got_of_line key)) whole old new (slice_set lines (suc n) after)
 done-key time n old new lines before after key whole there apart polls keeps first =
-    let one = stand_apart n old new lines before after there apart keeps in
+    let one = stand_apart (suc n) old new lines before after there apart keeps in
     let p = polled time (seen_line old before) (ahead_of old.told whole) in
-    subst (λ (l : Option Lined). DoneOnLine l (Some (got_of_line key)) whole old new (slice_set lines n after)) (sym (key-lined time n old lines before whole there))
+    subst (λ (l : Option Lined). DoneOnLine l (Some (got_of_line key)) whole old new (slice_set lines (suc n) after)) (sym (key-lined time n old lines before whole there))
     (record {
       answers = ap (λ (k : Option ℕ). Some (got_of_line k)) (sym (polls.key_is whole first));
-      lines = ap (slice_set (map (seen_line old) lines) n) (polls.line_is whole first) ∙ sym one.seen;
+      lines = ap (slice_set (map (seen_line old) lines) (suc n)) (polls.line_is whole first) ∙ sym one.seen;
       ahead = polls.ahead_is whole first;
       heard = polls.heard whole first;
     })
@@ -252,21 +252,21 @@ unfolding polled accepted received sent
 poll-nobody time ahead = refl
 
 pub done-nobody : (time n : ℕ) (s : LineState) (lines : List (LineOf ℕ)) (line : LineOf ℕ) (whole : List Answer)
-    → slice_get lines n ≡ Some line → line ≡ unconnected None
+    → slice_get lines (suc n) ≡ Some line → line ≡ unconnected None
     → DoneOnLine (lined time (want.LineKey n) (map (seen_line s) lines) (ahead_of s.told whole)) (Some got.NoKey) whole s s lines
 done-nobody time n s lines line whole there nobody =
     let ahead = ahead_of s.told whole in
     let at = map (seen_line s) lines in
     let poll : polled time (seen_line s line) ahead ≡ record { key = None; sent = []; line = unconnected None; ahead = ahead } =
     ap (λ (l : LineOf ℕ). polled time (seen_line s l) ahead) nobody ∙ poll-nobody time ahead in
-    let is : lined time (want.LineKey n) at ahead ≡ Some (record { got = got.NoKey; sent = []; lines = slice_set at n (unconnected None); ahead = ahead }) =
-    key-lined time n s lines line whole there ∙ ap (λ (p : Polled). Some (lined_by n at p)) poll in
+    let is : lined time (want.LineKey n) at ahead ≡ Some (record { got = got.NoKey; sent = []; lines = slice_set at (suc n) (unconnected None); ahead = ahead }) =
+    key-lined time n s lines line whole there ∙ ap (λ (p : Polled). Some (lined_by (suc n) at p)) poll in
     subst (λ (l : Option Lined). DoneOnLine l (Some got.NoKey) whole s s lines) (sym is)
     (record {
       answers = refl;
       lines =
-          ap (λ (l : LineOf ℕ). slice_set at n (seen_line s l)) (sym nobody)
-          ∙ set-same n at (seen_line s line) (seen-at s lines n (Some line) there);
+          ap (λ (l : LineOf ℕ). slice_set at (suc n) (seen_line s l)) (sym nobody)
+          ∙ set-same (suc n) at (seen_line s line) (seen-at s lines (suc n) (Some line) there);
       ahead = refl;
       heard = sym (nothing_heard s.sent);
     })
@@ -331,26 +331,26 @@ seen-put s byte n line lines there =
     set-map s zero (k ∷ ls) l = refl
     set-map s (suc i) (k ∷ ls) l = ap (λ (rest : List (LineOf Peer)). seen_line s k ∷ rest) (set-map s i ls l)
 
-put-lined : (time n byte : ℕ) (s : LineState) (lines : List (LineOf ℕ)) (line : LineOf ℕ) (whole : List Answer) → slice_get lines n ≡ Some line
+put-lined : (time n byte : ℕ) (s : LineState) (lines : List (LineOf ℕ)) (line : LineOf ℕ) (whole : List Answer) → slice_get lines (suc n) ≡ Some line
     → lined time (want.LinePut n byte) (map (seen_line s) lines) (ahead_of s.told whole)
     ≡ Some (record {
       got = put_got (seen_line s line);
       sent = [];
-      lines = slice_set (map (seen_line s) lines) n (put_line byte (seen_line s line));
+      lines = slice_set (map (seen_line s) lines) (suc n) (put_line byte (seen_line s line));
       ahead = ahead_of s.told whole;
     })
 unfolding lined
 put-lined time n byte s lines line whole there =
-    ap (option_map (λ (l : LineOf Peer). record { got = put_got l; sent = []; lines = slice_set (map (seen_line s) lines) n (put_line byte l); ahead = ahead_of s.told whole }))
-    (seen-at s lines n (Some line) there)
+    ap (option_map (λ (l : LineOf Peer). record { got = put_got l; sent = []; lines = slice_set (map (seen_line s) lines) (suc n) (put_line byte l); ahead = ahead_of s.told whole }))
+    (seen-at s lines (suc n) (Some line) there)
 
-pub done-put : (time n byte : ℕ) (s : LineState) (lines : List (LineOf ℕ)) (line : LineOf ℕ) (whole : List Answer) → slice_get lines n ≡ Some line
-    → DoneOnLine (lined time (want.LinePut n byte) (map (seen_line s) lines) (ahead_of s.told whole)) (Some (put_got line)) whole s s (slice_set lines n (put_line byte line))
+pub done-put : (time n byte : ℕ) (s : LineState) (lines : List (LineOf ℕ)) (line : LineOf ℕ) (whole : List Answer) → slice_get lines (suc n) ≡ Some line
+    → DoneOnLine (lined time (want.LinePut n byte) (map (seen_line s) lines) (ahead_of s.told whole)) (Some (put_got line)) whole s s (slice_set lines (suc n) (put_line byte line))
 done-put time n byte s lines line whole there =
-    subst (λ (l : Option Lined). DoneOnLine l (Some (put_got line)) whole s s (slice_set lines n (put_line byte line))) (sym (put-lined time n byte s lines line whole there))
+    subst (λ (l : Option Lined). DoneOnLine l (Some (put_got line)) whole s s (slice_set lines (suc n) (put_line byte line))) (sym (put-lined time n byte s lines line whole there))
     (record {
       answers = ap Some (sym (put-seen-parts s byte line.port line.connection line.keys line.output line.rest).1);
-      lines = seen-put s byte n line lines there;
+      lines = seen-put s byte (suc n) line lines there;
       ahead = refl;
       heard = sym (nothing_heard s.sent);
     })
@@ -362,13 +362,13 @@ put-nobody byte line nobody =
 
 -- a poll, told or of a line without a port
 pub done-poll : (tells : Bool) (time n : ℕ) (old new : LineState) (lines : List (LineOf ℕ)) (before after : LineOf ℕ) (key : Option ℕ) (whole : List Answer)
-    → StepsAt tells n old lines before new after → (IsTrue tells → Polls time key old before new after)
+    → StepsAt tells (suc n) old lines before new after → (IsTrue tells → Polls time key old before new after)
     → (before.port ≡ None → (key ≡ None) × (after ≡ unconnected None)) → AreLinesTold tells old lines → IsFirst (record_in new.told) whole
-    → DoneOnLine (lined time (want.LineKey n) (map (seen_line old) lines) (ahead_of old.told whole)) (Some (got_of_line key)) whole old new (slice_set lines n after)
+    → DoneOnLine (lined time (want.LineKey n) (map (seen_line old) lines) (ahead_of old.told whole)) (Some (got_of_line key)) whole old new (slice_set lines (suc n) after)
 done-poll tells time n old new lines before after key whole step polls nobody told first = elim told [
   | inl apart ↦ done-key time n old new lines before after key whole step.here apart.1 (polls apart.0) (step.parties apart.0) first
   | inr none ↦
-      let portless = no-port-at n lines before step.here none in
+      let portless = no-port-at (suc n) lines before step.here none in
       let still = step.idle portless in
       let quiet = nobody portless in
       let alone : before ≡ unconnected None = sym still.1 ∙ quiet.1 in
@@ -377,7 +377,7 @@ done-poll tells time n old new lines before after key whole step polls nobody to
       let K : Option ℕ → Type 0 = λ k. DoneOnLine (lined time (want.LineKey n) (map (seen_line old) lines) (ahead_of old.told whole)) (Some (got_of_line k)) whole old old lines in
       let S : LineState → Type 0 = λ x. DoneOnLine (lined time (want.LineKey n) (map (seen_line old) lines) (ahead_of old.told whole)) (Some (got_of_line key)) whole old x lines in
       let L : List (LineOf ℕ) → Type 0 = λ x. DoneOnLine (lined time (want.LineKey n) (map (seen_line old) lines) (ahead_of old.told whole)) (Some (got_of_line key)) whole old new x in
-      subst L (sym (ap (slice_set lines n) still.1 ∙ set-same n lines before step.here)) (subst S (sym still.0) (subst K (sym quiet.0) at))
+      subst L (sym (ap (slice_set lines (suc n)) still.1 ∙ set-same (suc n) lines before step.here)) (subst S (sym still.0) (subst K (sym quiet.0) at))
 ]
 
 -- a byte for the line at a place

@@ -11,7 +11,7 @@ use Rattle.unit_trait.specs.Kinds.{code_of}
 use Rattle.unit_trait.specs.Calls.{UnitState}
 use Rattle.unit_list.specs.Bus.{unit_at, kinds_of}
 use Rattle.unit_list.proofs.Calls.{there-kinds}
-use Rattle.nova_machine.specs.Machine.{line_count, lines_for, HasItsLines}
+use Rattle.nova_machine.specs.Machine.{line_count, terminal_lines_for, HasItsLines}
 
 -- the kinds alone say how many lines there are
 count-by-kinds : (us vs : List UnitState) → kinds_of us ≡ kinds_of vs → line_count us ≡ line_count vs
@@ -22,7 +22,7 @@ count-by-kinds us vs same =
     ∙ ap (λ (b : Bool). by (is_some (unit_at (code_of Qty) vs)) b (is_some (unit_at (code_of Tto1) us))) (there (code_of Tti1))
     ∙ ap (λ (b : Bool). by (is_some (unit_at (code_of Qty) vs)) (is_some (unit_at (code_of Tti1) vs)) b) (there (code_of Tto1))
 
-pub own_lines : (us : List UnitState) (lines : List (LineOf ℕ)) → lines ≡ lines_for us → HasItsLines (kinds_of us) lines
+pub own_lines : (us : List UnitState) (lines : List (LineOf ℕ)) → lines ≡ terminal_lines_for us → HasItsLines (kinds_of us) lines
 unfolding HasItsLines
 own_lines us lines are = λ vs same. ap (λ (ls : List (LineOf ℕ)). length ls) are ∙ length-replicate (line_count us) _ ∙ sym (count-by-kinds vs us same)
 

@@ -24,7 +24,7 @@ use Rattle.unit_list.specs.Bus.{unit_at, row_or_nothing, row_at, after_at}
 use Rattle.unit_files.specs.Acts.{Failure}
 use Rattle.unit_files.specs.Attachments.{attachment_at}
 use Rattle.expect_actions.specs.Sends.{Send, due_send, sends_left}
-use Rattle.nova_machine.specs.Machine.{MachineState}
+use Rattle.nova_machine.specs.Machine.{MachineState, place_of}
 use Rattle.nova_machine.specs.Seen.{Seen, with_machine, attached_in}
 use Rattle.nova_machine.specs.Parts.{Part, silent, behind_made}
 use Rattle.nova_machine.specs.Turned.{Turned, goes_on, still}
@@ -206,17 +206,18 @@ looks-change-nothing fault s there none =
 
 -- ---- the second teletype, whose line has no port
 
-set-same : {A : Type 0} (xs : List A) (x : A) → slice_get xs 0 ≡ Some x → slice_set xs 0 x ≡ xs
+set-same : {A : Type 0} (xs : List A) (x : A) → slice_get xs (place_of 0) ≡ Some x → slice_set xs (place_of 0) x ≡ xs
 set-same [] x is = absurd (cc)
-set-same (y ∷ xs) x is = let same : y ≡ x = grind arith in ap (λ (z : _). z ∷ xs) (sym same)
+set-same (w ∷ []) x is = absurd (cc)
+set-same {A} (w ∷ y ∷ xs) x is = let same : y ≡ x = grind arith in ap (λ (z : A). w ∷ z ∷ xs) (sym same)
 
 -- nothing is done on such a line
-closed-lined : (s : Seen) → want_at (keyboard_of Tti1) s.machine ≡ want.LineKey 0 → slice_get s.lines 0 ≡ Some (unconnected None)
+closed-lined : (s : Seen) → want_at (keyboard_of Tti1) s.machine ≡ want.LineKey 0 → slice_get s.lines (place_of 0) ≡ Some (unconnected None)
     → lined_at (keyboard_of Tti1) s ≡ Some (record { got = NoKey; sent = []; lines = s.lines; ahead = s.ahead })
 unfolding lined polled accepted received sent
 closed-lined s wants closed =
     ap (λ (w : Want). lined s.machine.time w s.lines s.ahead) wants
-    ∙ ap (λ (o : Option (LineOf Peer)). option_map (λ line. lined_by 0 s.lines (polled s.machine.time line s.ahead)) o) closed
+    ∙ ap (λ (o : Option (LineOf Peer)). option_map (λ line. lined_by (place_of 0) s.lines (polled s.machine.time line s.ahead)) o) closed
     ∙ ap (λ (lines : List (LineOf Peer)). Some (record { got = NoKey; sent = []; lines = lines; ahead = s.ahead })) (set-same s.lines (unconnected None) closed)
 
 service-line : (fault : Option Failure) (u : UnitName) (s : Seen) (l : Lined) → lined_at u s ≡ Some l → service fault u s ≡ line_service u l s
@@ -228,7 +229,7 @@ closed-service : (s : Seen) → line_service (keyboard_of Tti1) (record { got = 
 unfolding line_service
 closed-service s = refl
 
-second-look : (fault : Option Failure) (s : Seen) → is_some (unit_at (code_of Tti1) s.machine.units) ≡ true → slice_get s.lines 0 ≡ Some (unconnected None)
+second-look : (fault : Option Failure) (s : Seen) → is_some (unit_at (code_of Tti1) s.machine.units) ≡ true → slice_get s.lines (place_of 0) ≡ Some (unconnected None)
     → service fault (keyboard_of Tti1) s ≡ silent None (with_machine s (behind_look Tti1 s.machine))
 second-look fault s there closed =
     let m = s.machine in

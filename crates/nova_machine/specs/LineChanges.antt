@@ -11,8 +11,8 @@ use Rattle.telnet_lines.specs.Joined.{seen_line}
 use Rattle.telnet_lines.specs.Many.{AreApart}
 use Rattle.nova_machine.specs.OnLines.{Lined}
 
-abbrev pub ports_of : List (LineOf ℕ) → List (Option ℕ)
-ports_of lines = map (λ (line : LineOf ℕ). line.port) lines
+abbrev pub ports_of : {P : Type 0} → List (LineOf P) → List (Option ℕ)
+ports_of {P} lines = map (λ (line : LineOf P). line.port) lines
 
 -- no line has a port
 abbrev pub HaveNoPort : List (LineOf ℕ) → Type 0

@@ -19,7 +19,7 @@ use Rattle.expect_actions.specs.Sends.{Send, due_send}
 use Rattle.unit_files.specs.Acts.{Failure}
 use Rattle.nova_processor.specs.declared.burst.BurstEnd.{BurstEnd}
 use Rattle.nova_processor.specs.declared.burst.BurstEnd.TheVariants.{ChainLimit}
-use Rattle.nova_machine.specs.Machine.{MachineState}
+use Rattle.nova_machine.specs.Machine.{MachineState, place_of}
 use Rattle.nova_machine.specs.Seen.{Seen, with_machine}
 use Rattle.nova_machine.specs.Parts.{silent}
 use Rattle.nova_machine.specs.Service.{key_at, service}
@@ -56,7 +56,7 @@ IsKeyed kind = ⊥
 -- its line has no port.
 abbrev pub IsUnheard : {P : Type 0} → Kind → List (LineOf P) → Type 0
 IsUnheard Tti lines = Unit {0}
-IsUnheard Tti1 lines = slice_get lines 0 ≡ Some (unconnected None)
+IsUnheard Tti1 lines = slice_get lines (place_of 0) ≡ Some (unconnected None)
 IsUnheard kind lines = ⊥
 
 -- what a unit wishes for where no key comes

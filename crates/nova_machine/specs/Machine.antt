@@ -1,5 +1,5 @@
 -- The state of a machine, on which all that it does depends.
-use Rattle.std.specs.Prelude.{◌≡◌, ℕ, Bool, false, ◌||◌, List, [], length, Option, None, is_some, slice_set, replicate, if◌then◌else◌}
+use Rattle.std.specs.Prelude.{◌≡◌, ℕ, suc, Bool, false, ◌||◌, List, [], ◌∷◌, length, Option, None, is_some, slice_set, replicate, if◌then◌else◌}
 use Rattle.unit_trait.specs.declared.kind.Kind.{Kind}
 use Rattle.unit_trait.specs.declared.kind.Kind.TheVariants.{Tti1, Tto1, Qty}
 use Rattle.unit_trait.specs.Calls.{UnitState}
@@ -18,7 +18,8 @@ use Rattle.nova_processor.specs.Processor.{ProcessorState, new_processor}
 -- the processor with its memory, the interrupts, the switch register, whether a word to a device that is not there stops
 -- the machine, the units in bus order, their events that wait, the time: how many instructions were executed since the
 -- session began; how many keys were taken; what is attached to the units, what the disk holds of its file, and what the code
--- keeps beside that, on which nothing that is done depends; and the terminal lines, line 0 first
+-- keeps beside that, on which nothing that is done depends; and its lines, the console line first, and behind it the terminal
+-- lines by their numbers
 pub record MachineState : Type 0 where
   pub processor : ProcessorState
   pub ints : Ints
@@ -40,9 +41,16 @@ attached_files m = record { slots = m.slots; disk = m.disk; aside = m.aside }
 abbrev pub with_attached_files : MachineState → AttachedFiles → MachineState
 with_attached_files m a = record m { slots = a.slots; disk = a.disk; aside = a.aside }
 
--- the machine with that line in place of the one with that number
+-- where the console line stands, and where the terminal line with a number does
+abbrev pub console_place : ℕ
+console_place = 0
+
+abbrev pub place_of : ℕ → ℕ
+place_of number = suc number
+
+-- the machine with that line in place of the one at that place
 abbrev pub with_line : MachineState → ℕ → LineOf ℕ → MachineState
-with_line m n line = record m { lines = slice_set m.lines n line }
+with_line m place line = record m { lines = slice_set m.lines place line }
 
 -- All devices are reset: the mask is cleared, no event waits, and each unit is reset, in bus order, which may bring an
 -- event of it.
@@ -64,15 +72,19 @@ has_terminal units = is_some (unit_at (code_of Tti1) units) || is_some (unit_at 
 abbrev pub has_multiplexer : List UnitState → Bool
 has_multiplexer units = is_some (unit_at (code_of Qty) units)
 
--- Line 0 is there where one of the units of the second teletype is. Where the multiplexer is, its lines 1 to 64 stand behind
--- line 0.
+-- How many terminal lines there are. Line 0 is there where one of the units of the second teletype is. Where the multiplexer
+-- is, its lines 1 to 64 stand behind line 0.
 abbrev pub line_count : List UnitState → ℕ
 line_count units = if has_multiplexer units then 65 else if has_terminal units then 1 else 0
 
-abbrev pub lines_for : List UnitState → List (LineOf ℕ)
-lines_for units = replicate (line_count units) (unconnected None)
+-- the terminal lines, and all lines: the console line is always there
+abbrev pub terminal_lines_for : List UnitState → List (LineOf ℕ)
+terminal_lines_for units = replicate (line_count units) (unconnected None)
 
--- A machine with units of these kinds has just the lines that belong to them, whatever was done with it.
+abbrev pub lines_for : List UnitState → List (LineOf ℕ)
+lines_for units = unconnected None ∷ terminal_lines_for units
+
+-- A machine with units of these kinds has just the terminal lines that belong to them, whatever was done with it.
 unfoldable pub HasItsLines : List Kind → List (LineOf ℕ) → Type 0
 HasItsLines kinds lines = (units : List UnitState) → kinds_of units ≡ kinds → length lines ≡ line_count units
 

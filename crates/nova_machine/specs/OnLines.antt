@@ -9,6 +9,7 @@ use Rattle.unit_trait.specs.declared.calls.Want.{Want}
 use Rattle.unit_trait.specs.declared.calls.Want.TheVariants as want
 use Rattle.unit_trait.specs.declared.calls.Got.{Got}
 use Rattle.unit_trait.specs.declared.calls.Got.TheVariants as got
+use Rattle.nova_machine.specs.Machine.{place_of}
 
 -- what was done on a line: the answer for the unit, the bytes that were sent, the lines, and what is still to come on them
 pub record Lined : Type 0 where
@@ -34,9 +35,9 @@ IsOfPoll (got.Key key) = Unit {0}
 IsOfPoll got.NoKey = Unit {0}
 IsOfPoll other = ⊥
 
--- the line with that number was polled
+-- the line at that place was polled
 abbrev pub lined_by : ℕ → List (LineOf Peer) → Polled → Lined
-lined_by n lines p = record { got = got_of_line p.key; sent = p.sent; lines = slice_set lines n p.line; ahead = p.ahead }
+lined_by place lines p = record { got = got_of_line p.key; sent = p.sent; lines = slice_set lines place p.line; ahead = p.ahead }
 
 -- a byte is put on a line, where that is not full
 abbrev pub put_line : {P : Type 0} → ℕ → LineOf P → LineOf P
@@ -48,9 +49,9 @@ put_got line = if is_full line then got.LineFull else got.Done
 -- What a want comes to that is for a line which is there, at that time; none where it is for no line, or for one that is
 -- not there.
 unfoldable pub lined : ℕ → Want → List (LineOf Peer) → Ahead → Option Lined
-lined time (want.LineKey n) lines ahead = option_map (λ line. lined_by n lines (polled time line ahead)) (slice_get lines n)
+lined time (want.LineKey n) lines ahead = option_map (λ line. lined_by (place_of n) lines (polled time line ahead)) (slice_get lines (place_of n))
 lined time (want.LinePut n byte) lines ahead =
-    option_map (λ line. record { got = put_got line; sent = []; lines = slice_set lines n (put_line byte line); ahead = ahead }) (slice_get lines n)
+    option_map (λ line. record { got = put_got line; sent = []; lines = slice_set lines (place_of n) (put_line byte line); ahead = ahead }) (slice_get lines (place_of n))
 lined time other lines ahead = None
 
 -- sent bytes, each with its caller, as they are observed

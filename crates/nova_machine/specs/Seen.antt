@@ -21,7 +21,7 @@ pub record Seen : Type 0 where
   -- the keys of the console, each with its time
   pub keys : List (ℕ × ℕ)
   pub files : List NamedBytes
-  -- the lines, each with who is behind its connection
+  -- the lines, the console line first, each with who is behind its connection
   pub lines : List (LineOf Peer)
   -- what is still to come on them
   pub ahead : Ahead

@@ -7,6 +7,7 @@ ghost use Rattle.unit_list.specs.Places.{places_in};
 ghost use Rattle.event_queue.specs.Idle.{AreTwins, idled};
 ghost use Rattle.nova_interrupts.specs.Requests.{requested};
 ghost use Rattle.telnet_lines.specs.Line.{unconnected};
+ghost use Rattle.nova_machine.specs.Machine.{place_of};
 ghost use Rattle.nova_machine.specs.Run.{last_time};
 ghost use Rattle.nova_machine.specs.Looks.{IsKeyless, IsKeyed, IsUnheard, IsLooking, LooksAt, AreNext, IsIdle, keyless_wish, idled_by, looked_at, idle_end};
 
@@ -191,9 +192,9 @@ impl<U: Unit> Machine<U> {
         }
     }
 
-    /// Whether the first terminal line is there and has no port.
+    /// Whether line 0, the second teletype's, is there and has no port.
     pub(crate) fn is_closed(&self) -> bool
-        ensures { result ≡ true → slice_get self.now.lines 0 ≡ Some (unconnected None) }
+        ensures { result ≡ true → slice_get self.now.lines (place_of 0) ≡ Some (unconnected None) }
     {
         match self.lines.first() {
             None => false,

@@ -7,7 +7,7 @@ ghost use Rattle.file_traits.specs.State.{Opened};
 ghost use Rattle.unit_files.specs.Open.{AllOpen, Around};
 ghost use Rattle.nova_machine.specs.Core.{AreListed};
 ghost use Rattle.telnet_lines.specs.Line.{unconnected};
-ghost use Rattle.nova_machine.specs.Machine.{lines_for, line_count, HasItsLines};
+ghost use Rattle.nova_machine.specs.Machine.{terminal_lines_for, line_count, HasItsLines};
 ghost use Rattle.nova_machine.specs.Run.{last_time};
 
 use event_queue::Events;
@@ -94,12 +94,14 @@ pub struct Machine<U: Unit> {
     pub(crate) taken: u64,
     /// The files of its units.
     pub(crate) attached: Attached,
+    /// The console line.
+    pub(crate) console: Line,
     /// Its terminal lines, line 0 first.
     pub(crate) lines: Vec<Line>,
 }
 
 impl<U: Unit> Model for Machine<U> {
-    ghost use Rattle.std.specs.Prelude.{◌≡◌, ◌≤◌, map};
+    ghost use Rattle.std.specs.Prelude.{◌≡◌, ◌≤◌, ◌∷◌, map};
     ghost use Rattle.unit_list.specs.Bus.{AllFit, kinds_of};
     ghost use Rattle.unit_list.specs.Places.{places_in};
     ghost use Rattle.nova_machine.specs.Core.{AreListed};
@@ -121,7 +123,7 @@ impl<U: Unit> Model for Machine<U> {
       slots = m.attached.slots;
       disk = m.attached.disk;
       aside = m.attached.aside;
-      lines = m.lines.items;
+      lines = m.console ∷ m.lines.items;
     } };
 
     ghost invariant = { λ m. (m.time ≤ last_time) × IsQuiet m.quiet m.ints (map U.unit_state m.units.items)
@@ -138,8 +140,8 @@ impl<U: Unit> Machine<U> {
     ghost use Rattle.nova_machine.specs.Registers.{register_of, with_register};
 
     /// A machine of 32768 words with those units, at time 0, as a reset leaves it. Memory is 0, and so is every
-    /// register of the processor but `Size`. No key is taken, no file attached, and no line has a port: line 0 is there
-    /// where a unit of the second teletype is, and line 0 with lines 1 to 64 where the multiplexer is.
+    /// register of the processor but `Size`. No key is taken, no file attached, and no line has a port: the console line
+    /// is there, line 0 where a unit of the second teletype is, and line 0 with lines 1 to 64 where the multiplexer is.
     #[tactic(auto, unfolding(crate::specs::Machine::new_machine))]
     pub fn new(alloc: Global, units: Vec<U>) -> Result<Machine<U>, AllocError>
         requires { IsBusOrder (map U.unit_state units.items) }
@@ -162,6 +164,7 @@ impl<U: Unit> Machine<U> {
             quiet: false,
             taken: 0,
             attached: Attached::new(alloc)?,
+            console: Line::new(alloc)?,
             lines,
         };
         machine.reset();
@@ -270,17 +273,17 @@ impl<U: Unit> Machine<U> {
     }
 }
 
-/// The lines of a machine with those units.
+/// The terminal lines of a machine with those units.
 #[tactic(auto, using(crate::proofs::LinesThere::own_lines))]
 fn lines_of<U: Unit>(alloc: Global, places: &Places, units: &[U]) -> Result<Vec<Line>, AllocError>
     requires { places.now ≡ places_in (kinds_of (map U.unit_state units.now)) }
-    ensures lines { IfOk result (λ lines. lines.items ≡ lines_for (map U.unit_state units.now)) }
+    ensures lines { IfOk result (λ lines. lines.items ≡ terminal_lines_for (map U.unit_state units.now)) }
     ensures own { IfOk result (λ lines. HasItsLines (kinds_of (map U.unit_state units.now)) lines.items) }
 {
     new_lines(alloc, line_count(places, units))
 }
 
-/// How many lines a machine with those units has: line 0 for the second teletype, and behind it lines 1 to 64 for the
+/// How many terminal lines a machine with those units has: line 0 for the second teletype, and behind it lines 1 to 64 for the
 /// multiplexer.
 fn line_count<U: Unit>(places: &Places, units: &[U]) -> usize
     requires { places.now ≡ places_in (kinds_of (map U.unit_state units.now)) }

@@ -9,7 +9,7 @@ use Rattle.file_traits.specs.declared.files.FileId.{FileId}
 use Rattle.host_lines.specs.Traffic.{Gone, Ahead, Answer as LineAnswer}
 use Rattle.host_lines.specs.Told.{ahead_of}
 use Rattle.host_lines.specs.State.{LineState}
-use Rattle.telnet_lines.specs.Line.{renamed, unconnected}
+use Rattle.telnet_lines.specs.Line.{renamed}
 use Rattle.telnet_lines.specs.Joined.{seen_line}
 use Rattle.unit_trait.specs.declared.kind.UnitName.{UnitName}
 use Rattle.unit_trait.specs.Calls.{UnitState}
@@ -26,7 +26,7 @@ use Rattle.file_commands.specs.AllUnits.{IsUnwritten}
 use Rattle.file_commands.proofs.Emptying.{unwritten-since}
 use Rattle.expect_actions.specs.KeysFile.{Key}
 use Rattle.expect_actions.specs.Watch.{WatchState, empty_watch}
-use Rattle.nova_machine.specs.Machine.{MachineState, new_machine, reset_machine, reset_devices}
+use Rattle.nova_machine.specs.Machine.{MachineState, lines_for, new_machine, reset_machine, reset_devices}
 use Rattle.nova_machine.specs.Seen.{seen, beside, erased, attached_in}
 use Rattle.nova_machine.specs.Comes.{Output, output}
 use Rattle.state_transfer.specs.SavedValid.{AreStandard}
@@ -158,14 +158,14 @@ unfolding new_machine reset_machine reset_devices
 first-lines None s = refl
 first-lines (Some number) s = refl
 
-one-line : (workload : Option ℕ) → (with_workload workload (new_machine standard_units)).lines ≡ unconnected None ∷ []
+own-lines : (workload : Option ℕ) → (with_workload workload (new_machine standard_units)).lines ≡ lines_for standard_units
 unfolding new_machine reset_machine reset_devices
-one-line None = refl
-one-line (Some number) = refl
+own-lines None = refl
+own-lines (Some number) = refl
 
-pub begun-line : (Told : Type 0) (words : List (List ℕ)) (options : Options) (s : CommandState) (o : Opening) (old mid : FileState) → Begun Told words options s o old mid
-    → s.machine.lines ≡ unconnected None ∷ []
-begun-line Told words options s o old mid begun = ap (λ (m : MachineState). m.lines) begun.machine ∙ one-line options.workload
+pub begun-lines : (Told : Type 0) (words : List (List ℕ)) (options : Options) (s : CommandState) (o : Opening) (old mid : FileState) → Begun Told words options s o old mid
+    → s.machine.lines ≡ lines_for standard_units
+begun-lines Told words options s o old mid begun = ap (λ (m : MachineState). m.lines) begun.machine ∙ own-lines options.workload
 
 pub same-start : (Told : Type 0) (words : List (List ℕ)) (options : Options) (s : CommandState) (o : Opening) (old mid : FileState) (lines : LineState) (whole : List LineAnswer) (input : List ℕ) (notes : List Note)
     → Begun Told words options s o old mid → Told

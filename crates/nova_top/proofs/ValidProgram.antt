@@ -17,14 +17,16 @@ use Rattle.whole_files.specs.Whole as whole
 use Rattle.expect_actions.specs.KeysFile.{Key, KeysLine, keys_of, time_read, says_read, line_read, next_read, keys_from, keys_read, lines_of, most_keys, IsAnswer}
 use Rattle.expect_actions.proofs.AnswerLemmas.{computed_answers}
 use Rattle.host_lines.specs.Traffic.{Peer, Gone, Ahead}
-use Rattle.telnet_lines.specs.Line.{unconnected, renamed}
+use Rattle.telnet_lines.specs.Line.{LineOf, unconnected, renamed}
 use Rattle.unit_files.specs.Attachments.{Held}
-use Rattle.nova_machine.specs.Machine.{MachineState, reset_devices, reset_machine, new_machine}
+use Rattle.nova_machine.specs.Machine.{MachineState, lines_for, reset_devices, reset_machine, new_machine}
 use Rattle.nova_machine.specs.Seen.{unnumbered, erased}
 use Rattle.nova_machine.specs.Valid.{AreBytes, HasByteName, ValidMachine, ValidLine, DiskIsItsFile}
 use Rattle.machine_laws.proofs.StayingValid.{runs-stay-valid, kinds-begin}
 use Rattle.machine_laws.proofs.ValidBytes.{AreFiles}
 use Rattle.nova_machine.proofs.Each.{every-append, every-take, every-drop}
+use Rattle.terminal_ports.specs.Ports.{HaveNone}
+use Rattle.command_session.proofs.PortLemmas.{session-free}
 use Rattle.command_laws.specs.Valid.{IsProgramMachine}
 use Rattle.command_laws.proofs.ValidWatch.{read-bytes}
 use Rattle.command_laws.proofs.ValidMachines.{GivesWhole, whole-bytes, memory-valid}
@@ -252,19 +254,24 @@ first-valid workload = workload-valid workload (new_machine standard_units) (kin
 empty-line : ValidLine (unconnected None)
 empty-line = record { port = tt; nothing = λ none. refl; keys = tt; output = tt; few_keys = omega arith; few_bytes = omega arith }
 
--- no time has passed, no key is taken, and no file is attached
+none-seen : (lines : List (LineOf ℕ)) → HaveNone lines → HaveNone (map (renamed {Q = Peer} (λ _. Gone)) lines)
+none-seen [] none = tt
+none-seen (line ∷ lines) none = (none.0, none-seen lines none.1)
+
+-- no time has passed, no key is taken, no file is attached, and no line has a port
 record IsFresh (m : MachineState) : Type 0 where
   time : m.time ≡ 0
   taken : m.taken ≡ 0
   disk : (files : List NamedBytes) (keys : List Key) (ahead : Ahead) → DiskIsItsFile (first_live m keys files ahead)
   lines : AllByRecursion ValidLine (map (renamed {Q = Peer} (λ _. Gone)) m.lines)
   own : IsProgramMachine (erased m)
-  one : length m.lines ≡ 1
+  count : length m.lines ≡ length (lines_for m.units)
+  free : HaveNone m.lines
 
 first-fresh : (workload : Option ℕ) → IsFresh (first_machine workload)
 unfolding first_machine new_machine reset_machine reset_devices
-first-fresh None = record { time = refl; taken = refl; disk = λ files keys ahead. refl; lines = (empty-line, tt); own = record { units = reset-kinds standard_units; numbers = refl; aside = refl; lines = refl }; one = refl }
-first-fresh (Some number) = record { time = refl; taken = refl; disk = λ files keys ahead. refl; lines = (empty-line, tt); own = record { units = reset-kinds standard_units; numbers = refl; aside = refl; lines = refl }; one = refl }
+first-fresh None = record { time = refl; taken = refl; disk = λ files keys ahead. refl; lines = (empty-line, (empty-line, tt)); own = record { units = reset-kinds standard_units; numbers = refl; aside = refl; lines = refl }; count = refl; free = (refl, (refl, tt)) }
+first-fresh (Some number) = record { time = refl; taken = refl; disk = λ files keys ahead. refl; lines = (empty-line, (empty-line, tt)); own = record { units = reset-kinds standard_units; numbers = refl; aside = refl; lines = refl }; count = refl; free = (refl, (refl, tt)) }
 
 -- ---- the session
 
@@ -314,7 +321,8 @@ opening-good words options keys script files ahead input notes handed good =
           };
           time = omega (arith, time);
           machine = fresh.own;
-          line = length-map m.lines (renamed {Q = Peer} (λ _. Gone)) ∙ fresh.one;
+          count = length-map m.lines (renamed {Q = Peer} (λ _. Gone)) ∙ fresh.count;
+          ports = session-free (map (renamed {Q = Peer} (λ _. Gone)) m.lines) (none-seen m.lines fresh.free);
         };
         texts = record { few = omega arith; actions = tt; open_ = first.few; scripts = first.each };
         input = handed.read;

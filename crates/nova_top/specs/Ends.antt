@@ -17,16 +17,17 @@ use Rattle.file_commands.specs.Counts.{one_if, openings_noted}
 use Rattle.file_commands.specs.AllUnits.{IsUnwritten}
 use Rattle.whole_files.specs.Claims.{raised_by}
 use Rattle.expect_actions.specs.KeysFile.{Key}
-use Rattle.nova_machine.specs.Machine.{MachineState}
+use Rattle.nova_machine.specs.Machine.{MachineState, lines_for}
 use Rattle.nova_machine.specs.Seen.{erased}
 use Rattle.nova_machine.specs.Comes.{output}
 use Rattle.nova_machine.specs.LineChanges.{HasConnection, heard_with}
 use Rattle.command_session.specs.Live.{Live, Beyond}
 use Rattle.command_session.specs.Doing.{AllClosings}
-use Rattle.command_session.specs.LinesLeft.{HasPort, AreListened}
+use Rattle.command_session.specs.LinesLeft.{HasPort, AreListened, AreSessionLines}
 use Rattle.scp_script.specs.Loop.{missed_for, given_for}
 use Rattle.scp_script.specs.Perform.{RunsShort}
 use Rattle.command_words.specs.declared.options.Options.{Options}
+use Rattle.command_words.specs.Standard.{standard_units}
 use Rattle.command_words.specs.Words.{options_of}
 use Rattle.nova_top.specs.Outside.{trace_of, Outside, Left, left_by, opening, outcome, sent_by, whole_trace}
 use Rattle.program_start.specs.Start.{Begins, start_of}
@@ -193,10 +194,12 @@ abbrev pub FilesAtEnd : Option MachineState → List Opened → List Opened → 
 FilesAtEnd None old new = new ≡ old
 FilesAtEnd (Some m) old new = AllOpen m.slots new × Around m.slots old new
 
--- The machine has one line. Its port is listened on, where it has one; each port that is listened on and each connection that
--- stands is that line's, or was there before; and the count of faults has not fallen.
-pub record PortAtEnd (lines : List (LineOf ℕ)) (old new : LineState) : Type 0 where
-  pub one : length lines ≡ 1
+-- The machine has the lines of the standard units, of which no two have one port. The port of each is listened on, where it has
+-- one; each port that is listened on and each connection that stands is that of a line, or was there before; and the count of
+-- faults has not fallen.
+pub record PortsAtEnd (lines : List (LineOf ℕ)) (old new : LineState) : Type 0 where
+  pub count : length lines ≡ length (lines_for standard_units)
+  pub session : AreSessionLines lines
   pub listened : AreListened new lines
   pub ports : (port : ℕ) → IsTrue (new.listens port) → HasPort port lines ⊎ IsTrue (old.listens port)
   pub owned : (conn : ℕ) → IsTrue (new.stands conn) → HasConnection conn lines ⊎ IsTrue (old.stands conn)
@@ -205,7 +208,7 @@ pub record PortAtEnd (lines : List (LineOf ℕ)) (old new : LineState) : Type 0 
 -- that, told or not; without a machine nothing was asked of the ports and connections
 abbrev pub LinesAtEnd : Option MachineState → LineState → LineState → Type 0
 LinesAtEnd None old new = new ≡ old
-LinesAtEnd (Some m) old new = PortAtEnd m.lines old new
+LinesAtEnd (Some m) old new = PortsAtEnd m.lines old new
 
 -- no call on a file has failed
 abbrev pub NoneFailed : FileState → FileState → Type 0

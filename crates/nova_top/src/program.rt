@@ -1,4 +1,4 @@
-ghost use Rattle.std.specs.Prelude.{◌≡◌, ◌≢◌, ◌⊎◌, ◌≤◌, ◌^◌, ◌∷◌, List, [], map, Option, None, true, false, IsTrue, IsSome, is_some, option_map, is_none};
+ghost use Rattle.std.specs.Prelude.{◌≡◌, ◌≢◌, ◌⊎◌, ◌≤◌, ◌^◌, List, [], map, Option, None, true, false, IsTrue, IsSome, is_some, option_map, is_none};
 ghost use Rattle.std.specs.List.{AllByRecursion};
 ghost use Rattle.fault_counts.specs.Faults.{Rose};
 ghost use Rattle.observations.specs.Status.{number_of};
@@ -10,7 +10,7 @@ ghost use Rattle.file_commands.specs.Counts.{AreCounted, AreExact};
 ghost use Rattle.file_commands.specs.OwnFiles.{IsOwnNote, AreOwn};
 ghost use Rattle.host_lines.specs.Traffic.{Answer as LineAnswer};
 ghost use Rattle.host_lines.specs.Told.{IsFirst, record_in};
-ghost use Rattle.telnet_lines.specs.Line.{unconnected};
+ghost use Rattle.nova_machine.specs.Machine.{lines_for};
 ghost use Rattle.nova_machine.specs.Seen.{seen, beside};
 ghost use Rattle.nova_machine.specs.Comes.{output as heard_output};
 ghost use Rattle.state_transfer.specs.SavedValid.{AreStandard};
@@ -18,7 +18,7 @@ ghost use Rattle.command_session.specs.Live.{beyond};
 ghost use Rattle.scp_script.specs.Loop.{FinishCause, AreKeptFor};
 ghost use Rattle.scp_script.specs.Perform.{beginning, Performed, SaysNoMore as SessionSaysNoMore};
 ghost use Rattle.scp_script.specs.Used.{CourseTold};
-ghost use Rattle.command_words.specs.Standard.{IsStandard};
+ghost use Rattle.command_words.specs.Standard.{IsStandard, standard_units};
 ghost use Rattle.command_words.specs.Words.{texts_of};
 ghost use Rattle.program_start.specs.Start.{usage_text};
 ghost use Rattle.nova_top.specs.Ends.{IsOutcome, IsCutShort, StatusCause, MachineThere, IsComplete, FilesAtEnd, KeptUnwritten, OpeningsAtEnd, LinesAtEnd, NoneFailed, HasWorkload, InputTells};
@@ -63,9 +63,9 @@ pub struct Ending<U: Unit> {
 /// are closed, behind writing back what the disk holds; at any other end they stay open, and where that can't be
 /// written back, which is status 107 at the end of the input.
 ///
-/// The machine has one terminal line, of its second teletype. ATTACH gives it a port of `lines`. At EXIT and at the end
-/// of the input, where no file had to be kept, that is given up with its connection; at any other end, and behind the
-/// workload of `-g`, it stays.
+/// The machine has its console line and the line of its second teletype, both without a port. ATTACH gives the second
+/// one a port of `lines`. At EXIT and at the end of the input, where no file had to be kept, that is given up with its
+/// connection; at any other end, and behind the workload of `-g`, it stays.
 pub fn simulate<U: Unit, C: Source, S: Sink, F: Files, L: Lines>(
     alloc: Global,
     words: &[String],
@@ -259,7 +259,7 @@ fn unbegun<U: Unit>(status: ExitStatus, notes: Vec<FaultNote>) -> Ending<U>
     }
 }
 
-/// Does all lines of a session on a machine with the standard units and one terminal line, which has no port.
+/// Does all lines of a session on a machine with the standard units and their lines, none of which has a port.
 fn run_session<U: Unit, C: Source, S: Sink, F: Files, L: Lines>(
     alloc: Global,
     session: Session<U>,
@@ -274,7 +274,7 @@ fn run_session<U: Unit, C: Source, S: Sink, F: Files, L: Lines>(
     requires standard { AreStandard session.machine.units }
     requires open { AllOpen session.machine.slots (F.state files.old).opened }
     requires bare { session.machine.slots ≡ no_files }
-    requires lines { session.machine.lines ≡ unconnected None ∷ [] }
+    requires lines { session.machine.lines ≡ lines_for standard_units }
     ensures ended { SessionEnds result.status result.machine
         (λ finish watch now. (opening.now.reads ≡ true → IsTrue C.tells)
         → CourseTold F.tells L.tells (λ whole notes. beginning session

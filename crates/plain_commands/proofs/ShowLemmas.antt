@@ -16,7 +16,7 @@ use Rattle.command_session.specs.Reply.{Answer, says, refused}
 use Rattle.host_lines.specs.State.{parties}
 use Rattle.telnet_lines.specs.Line.{LineOf}
 use Rattle.telnet_lines.specs.Joined.{seen_line}
-use Rattle.command_session.specs.LineEffects.{is_terminal, terminal_line, port_text, line_text, show_line}
+use Rattle.command_session.specs.LineEffects.{is_terminal, terminal_place, terminal_line, port_text, line_text, show_line}
 use Rattle.command_session.specs.FileEffects.{lacks_unit, attachment_text, unit_line, unit_text}
 use Rattle.plain_commands.specs.WatchTexts.{breaks_text, expects_text, sends_text}
 use Rattle.plain_commands.specs.ShowEffects.{time_text, cpu_text, version_text, queue_text, show_reply}
@@ -114,13 +114,14 @@ terminal-does m watch keys files unit answer tells before after is does =
     (sym is) does
 
 -- its line, by what is seen of it
-pub line-shown : {T E : Type 0} (line : LineOf ℕ) (others : List (LineOf ℕ)) (m : MachineState) (watch : WatchState) (keys : List (ℕ × ℕ)) (files : Beyond) (printed : Result T E) (answer : Answer) (tells : Bool) (before after : Output)
-    → m.lines ≡ line ∷ others → answer ≡ told_or_console printed Go → (IsTrue tells → Puts before.console (line_text line) printed after.console) → after.heard ≡ before.heard
+pub line-shown : {T E : Type 0} (line : LineOf ℕ) (m : MachineState) (watch : WatchState) (keys : List (ℕ × ℕ)) (files : Beyond) (printed : Result T E) (answer : Answer) (tells : Bool) (before after : Output)
+    → slice_get m.lines terminal_place ≡ Some line → answer ≡ told_or_console printed Go → (IsTrue tells → Puts before.console (line_text line) printed after.console) → after.heard ≡ before.heard
     → Does (show_line (terminal_line (seen (beside watch keys files.files files.lines) files.whole m).lines) (seen (beside watch keys files.files files.lines) files.whole m)) answer (standing 0 (seen (beside watch keys files.files files.lines) files.whole m)) tells before after
-line-shown line others m watch keys files printed answer tells before after is said puts quiet =
+line-shown line m watch keys files printed answer tells before after is said puts quiet =
     let live = seen (beside watch keys files.files files.lines) files.whole m in
     let same : line_text (seen_line files.lines line) ≡ line_text line = same-text line.port line.connection in
-    subst (λ (ls : List (LineOf ℕ)). Does (show_line (terminal_line (map (seen_line files.lines) ls)) live) answer (standing 0 live) tells before after) (sym is)
+    subst (λ (o : Option (LineOf Peer)). Does (show_line o live) answer (standing 0 live) tells before after)
+    (sym (slice_get-map (seen_line files.lines) m.lines terminal_place ∙ ap (option_map (seen_line files.lines)) is))
     (subst (λ (text : List ℕ). Does (says text live) answer (standing 0 live) tells before after) (sym same)
     (says-does (line_text line) live printed answer tells before after said puts quiet))
   where
@@ -130,11 +131,12 @@ line-shown line others m watch keys files printed answer tells before after is s
     same-text (Some port) None = refl
     same-text (Some port) (Some conn) = refl
 
-pub no-line-shown : (m : MachineState) (watch : WatchState) (keys : List (ℕ × ℕ)) (files : Beyond) (tells : Bool) (text : Output) → m.lines ≡ []
+pub no-line-shown : (m : MachineState) (watch : WatchState) (keys : List (ℕ × ℕ)) (files : Beyond) (tells : Bool) (text : Output) → slice_get m.lines terminal_place ≡ None
     → Does (show_line (terminal_line (seen (beside watch keys files.files files.lines) files.whole m).lines) (seen (beside watch keys files.files files.lines) files.whole m)) (Err NoSuchName) (standing 0 (seen (beside watch keys files.files files.lines) files.whole m)) tells text text
 no-line-shown m watch keys files tells text none =
     let live = seen (beside watch keys files.files files.lines) files.whole m in
-    subst (λ (ls : List (LineOf ℕ)). Does (show_line (terminal_line (map (seen_line files.lines) ls)) live) (Err NoSuchName) (standing 0 live) tells text text) (sym none)
+    subst (λ (o : Option (LineOf Peer)). Does (show_line o live) (Err NoSuchName) (standing 0 live) tells text text)
+    (sym (slice_get-map (seen_line files.lines) m.lines terminal_place ∙ ap (option_map (seen_line files.lines)) none))
     (refl, refused-said NoSuchName live tells text)
 
 pub unit-does : {T E : Type 0} (m : MachineState) (watch : WatchState) (keys : List (ℕ × ℕ)) (files : Beyond) (unit : UnitName) (printed : Result T E) (answer : Answer) (tells : Bool) (before after : Output)

@@ -52,7 +52,7 @@ use Rattle.command_session.specs.declared.next.Next.{Next}
 use Rattle.unit_trait.specs.declared.kind.Kind.{Kind}
 use Rattle.host_lines.specs.Traffic.{Answer as LineAnswer, Peer, Replied, Quiet, Connected, Gave, HungUp, Failed, Took, listening}
 use Rattle.telnet_lines.specs.Line.{LineOf}
-use Rattle.command_session.specs.LineEffects.{is_terminal, terminal_line, is_port, listen_answer, listen_lines, listen_with, attach_line, attach_port_reply}
+use Rattle.command_session.specs.LineEffects.{is_terminal, terminal_place, terminal_line, is_port, listen_answer, listen_lines, listen_with, attach_line, attach_port_reply}
 use Rattle.command_session.specs.LineEffects.{with_port, detach_port_reply, disconnect_reply, show_line}
 use Rattle.plain_commands.specs.ShowEffects.{show_reply}
 use Rattle.command_session.specs.ExitEffects.{exit_reply}
@@ -282,13 +282,13 @@ unfolding disconnect_reply
 fair-disconnect live = fair-with_port (terminal_line live.lines) live _
 
 -- a listening that failed leaves that it was made
-fair-listen_with : (kind : Kind) (port given : ℕ) (said : Replied) (live : Live) → Fair false (LeavesTraces (request.AttachPort kind given)) live (listen_with said port live)
-fair-listen_with kind port given said live = by said.answer
+fair-listen_with : (kind : Kind) (place port given : ℕ) (said : Replied) (live : Live) → Fair false (LeavesTraces (request.AttachPort kind given)) live (listen_with said place port live)
+fair-listen_with kind place port given said live = by said.answer
   where
     by : (answer : LineAnswer) → Fair false (LeavesTraces (request.AttachPort kind given)) live (record {
       made = [];
       answer = listen_answer answer;
-      after = standing 0 (record live { lines = listen_lines answer port live.lines; ahead = said.ahead });
+      after = standing 0 (record live { lines = listen_lines answer place port live.lines; ahead = said.ahead });
     })
     by Failed = record {
       reads = refl;
@@ -304,15 +304,15 @@ fair-listen_with kind port given said live = by said.answer
     by HungUp = record { reads = refl; exit = tt; untouched = λ other h. absurd (cc); all = λ other h none. absurd (cc) }
     by (Took count) = record { reads = refl; exit = tt; untouched = λ other h. absurd (cc); all = λ other h none. absurd (cc) }
 
-fair-attach_line : (kind : Kind) (line : Option (LineOf Peer)) (port : ℕ) (live : Live) → Fair false (LeavesTraces (request.AttachPort kind port)) live (attach_line line port live)
-fair-attach_line kind None port live = fair-refused _ live
-fair-attach_line kind (Some line) port live =
+fair-attach_line : (kind : Kind) (line : Option (LineOf Peer)) (place port : ℕ) (live : Live) → Fair false (LeavesTraces (request.AttachPort kind port)) live (attach_line line place port live)
+fair-attach_line kind None place port live = fair-refused _ live
+fair-attach_line kind (Some line) place port live =
     fair-if (is_some line.port) live _ _ (fair-refused _ live)
-    (fair-if (is_port port) live _ _ (fair-listen_with kind port port (listening live.ahead) live) (fair-refused _ live))
+    (fair-if (is_port port) live _ _ (fair-listen_with kind place port port (listening live.ahead) live) (fair-refused _ live))
 
 fair-attach_port : (kind : Kind) (live : Live) (port : ℕ) → Fair false (LeavesTraces (request.AttachPort kind port)) live (attach_port_reply live port)
 unfolding attach_port_reply
-fair-attach_port kind live port = fair-attach_line kind (terminal_line live.lines) port live
+fair-attach_port kind live port = fair-attach_line kind (terminal_line live.lines) terminal_place port live
 
 fair-detach_where : (notes : List CommandNote) (live : Live) (unit : Option UnitName) → Fair false (LeavesTraces (request.Detach unit)) live (detach_one_or_all notes live unit)
 fair-detach_where notes live None = fair-detach_all None notes live

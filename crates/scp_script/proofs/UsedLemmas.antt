@@ -1,6 +1,7 @@
 -- What a session uses of files and lines: by its next text, and by a command.
-use Rattle.std.proofs.Common.{◌≡◌, ◌≢◌, inl, inr, ℕ, ◌≤◌, ◌<◌, Bool, true, false, IsTrue, List, [], ◌∷◌, ◌++◌, length, map, Option, Some, None, refl, sym, subst, Ok, Err, if◌then◌else◌}
+use Rattle.std.proofs.Common.{◌≡◌, ◌≢◌, inl, inr, ℕ, zero, suc, ◌≤◌, ◌<◌, Bool, true, false, IsTrue, List, [], ◌∷◌, ◌++◌, length, map, slice_get, Option, Some, None, refl, ap, sym, ◌∙◌, subst, Ok, Err, if◌then◌else◌}
 use Rattle.std.specs.List.{AllByRecursion}
+use Rattle.std.proofs.lemmas.Option.{same_Some}
 use Rattle.host_lines.specs.Traffic.{Peer, Answer as LineAnswer}
 use Rattle.host_lines.specs.Told.{IsFirst, record_in}
 use Rattle.host_lines.specs.State.{LineState}
@@ -19,12 +20,12 @@ use Rattle.nova_machine.proofs.LineSteps.{first-same}
 use Rattle.command_session.specs.declared.fault.CommandFault.TheVariants.{Console, OutOfMemory}
 use Rattle.command_session.specs.Live.{Live, CommandState, Beyond, live_in}
 use Rattle.command_session.specs.Reply.{Answer}
-use Rattle.command_session.specs.LineEffects.{is_terminal}
+use Rattle.command_session.specs.LineEffects.{is_terminal, terminal_place}
 use Rattle.command_session.specs.Nature.{Telling, nature}
 use Rattle.command_session.specs.Nature.Telling.{Nothing, Ported, Listening, Attached, Named, Whole}
 use Rattle.command_session.specs.Doing.{IsRefused, told_by, IsTold}
 use Rattle.command_session.specs.LinesLeft.{IsUnlistened}
-use Rattle.command_session.specs.PortAnswers.{LinesStay, DetachesPort, Disconnects, ClosesPort, ClosesAll, detaches_by}
+use Rattle.command_session.specs.PortAnswers.{LinesStay, detaches_at, disconnects_at, closes_at, DetachesPort, Disconnects, ClosesPort, ClosesAll, detaches_by}
 use Rattle.command_session.specs.Asked.{Asked, asked}
 use Rattle.scp_commands.specs.LineAnswers.{RunLines, LinesAnswer}
 use Rattle.session_texts.specs.Lines.{InputEnds, LineComes, arrival}
@@ -123,21 +124,36 @@ by-answer r (Ok next) old new Says never unasked line goes = goes (line (λ e. a
 by-answer r (Err Console) old new Says never unasked line goes = goes (line (λ e. absurd (cc)))
 by-answer r (Err fault) old new Says never unasked line goes = unasked tt never
 
+-- the line at a place has none
+free-at : (lines : List (LineOf ℕ)) (place : ℕ) (line : LineOf ℕ) → slice_get lines place ≡ Some line → HaveNoPort lines → line.port ≡ None
+free-at [] place line at none = absurd (cc)
+free-at (l ∷ lines) zero line at none = ap (λ (x : LineOf ℕ). x.port) (sym (same_Some l line at)) ∙ none.0
+free-at (l ∷ lines) (suc place) line at none = free-at lines place line at none.1
+
 closes-none : (old : LineState) (before : List (LineOf ℕ)) (new : LineState) (after : List (LineOf ℕ)) → HaveNoPort before → ClosesPort old before new after → new ≡ old
-closes-none old [] new after none stay = stay.outside
-closes-none old (line ∷ lines) new after none drops = drops.none none.0
+closes-none old before new after none closes = by (slice_get before terminal_place) refl closes
+  where
+    by : (o : Option (LineOf ℕ)) → slice_get before terminal_place ≡ o → closes_at terminal_place o old before new after → new ≡ old
+    by None at stay = stay.outside
+    by (Some line) at drops = drops.none (free-at before terminal_place line at none)
 
 closes-all-none : (answer : Answer) (old : LineState) (before : List (LineOf ℕ)) (new : LineState) (after : List (LineOf ℕ)) → HaveNoPort before → ClosesAll answer old before new after → new ≡ old
 closes-all-none (Ok next) old before new after none closes = closes-none old before new after none closes
 closes-all-none (Err fault) old before new after none stay = stay.outside
 
 detaches-none : (answer : Answer) (old : LineState) (before : List (LineOf ℕ)) (new : LineState) (after : List (LineOf ℕ)) → HaveNoPort before → DetachesPort answer old before new after → new ≡ old
-detaches-none answer old [] new after none is = is.stay.outside
-detaches-none answer old (line ∷ lines) new after none is = is.1.none none.0
+detaches-none answer old before new after none detaches = by (slice_get before terminal_place) refl detaches
+  where
+    by : (o : Option (LineOf ℕ)) → slice_get before terminal_place ≡ o → detaches_at terminal_place o answer old before new after → new ≡ old
+    by None at is = is.stay.outside
+    by (Some line) at is = is.1.none (free-at before terminal_place line at none)
 
 disconnects-none : (answer : Answer) (old : LineState) (before : List (LineOf ℕ)) (new : LineState) (after : List (LineOf ℕ)) → HaveNoPort before → Disconnects answer old before new after → new ≡ old
-disconnects-none answer old [] new after none is = is.stay.outside
-disconnects-none answer old (line ∷ lines) new after none is = is.1.none none.0
+disconnects-none answer old before new after none disconnects = by (slice_get before terminal_place) refl disconnects
+  where
+    by : (o : Option (LineOf ℕ)) → slice_get before terminal_place ≡ o → disconnects_at terminal_place o answer old before new after → new ≡ old
+    by None at is = is.stay.outside
+    by (Some line) at is = is.1.none (free-at before terminal_place line at none)
 
 detached-none : (b tells : Bool) (answer : Answer) (old : LineState) (before : List (LineOf ℕ)) (new : LineState) (after : List (LineOf ℕ)) → (IsTrue tells → ⊥)
     → LinesTold (if b then Ported else Nothing) tells (ports_of before) → detaches_by b answer old before new after → new ≡ old

@@ -28,6 +28,7 @@ use Rattle.state_commands.specs.StateEffects.{flushed_with}
 use Rattle.command_session.specs.Asked.{Asked}
 use Rattle.command_session.specs.DiskFile.{disk_alone}
 use Rattle.scp_commands.specs.Effect.{effect, does}
+use Rattle.command_laws.proofs.OwnLines.{standard-many}
 use Rattle.command_laws.specs.Resumption.{done_with, left_by_save, continued, saved_among, HasNobody, HaveLengths, IsAtRest, HoldsSaved}
 use Rattle.command_laws.proofs.ResumptionLemmas.{restore-puts-back}
 use Rattle.scp_script.specs.declared.progress.Finish.{Finish}
@@ -175,11 +176,13 @@ rested-already s used behind clean = ap (λ (w : WatchState). record behind { li
 step-back : (at behind : Session) (s : Live) (used : ℕ) → ValidSession at → RestoresSaved at behind s used → step at ≡ record { made = asking at; next = Going (resumed s used behind) }
 step-back at behind s used valid back =
     let r = back.restores in
-    let line = (comes-valid at r.line behind valid r.comes).line in
+    let live = comes-valid at r.line behind valid r.comes in
+    let saved = back.holds.rest.session in
+    let many = live.count ∙ standard-many behind.live.machine.units s.machine.units live.machine.units saved.machine.units ∙ sym saved.count in
     let what : Asked = Ok (Restore back.force back.name) in
     let notes = handed behind.spent behind.notes in
-    let is = restore-puts-back.restored behind.limit notes behind.live s back.force back.name back.then_files used r.done back.holds back.files line in
-    let alone = restore-puts-back.alone behind.limit notes behind.live s back.force back.name back.then_files used r.done back.holds back.files line in
+    let is = restore-puts-back.restored behind.limit notes behind.live s back.force back.name back.then_files used r.done back.holds back.files many in
+    let alone = restore-puts-back.alone behind.limit notes behind.live s back.force back.name back.then_files used r.done back.holds back.files many in
     step-comes at behind r.line what r.comes r.command
     ∙ step-done (asking at) behind what used (continued s behind.live) (said-restore behind.limit behind.texts notes behind.live (continued s behind.live) back.force back.name used is)
     ∙ ap (λ (b : Bool). record { made = asking at; next = going_on b (rested (resumed s used behind)) }) alone

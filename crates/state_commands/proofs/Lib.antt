@@ -6,3 +6,4 @@ pub mod RestoreLines
 pub mod RestoreNotes
 pub mod SaveLemmas
 pub mod StateReadingLemmas
+pub mod ConsoleFirst

@@ -1,5 +1,6 @@
 -- What RESTORE leaves of the lines.
-use Rattle.std.proofs.Common.{◌≡◌, inl, inr, ℕ, zero, suc, ◌+◌, ◌++◌, append-nil, Bool, true, false, List, [], ◌∷◌, length, map, Option, Some, None, Result, Ok, Err, refl, ap, sym, ◌∙◌, subst, arith}
+use Rattle.std.proofs.Common.{◌≡◌, inl, inr, ℕ, zero, suc, ◌+◌, ◌++◌, append-nil, Bool, true, false, List, [], ◌∷◌, length, map, slice_get, Option, Some, None, is_some, option_map, Result, Ok, Err, refl, ap, sym, ◌∙◌, subst, arith}
+use Rattle.std.proofs.lemmas.Option.{same_Some, slice_get-map}
 use Rattle.host_lines.specs.declared.lines.ListenFault.{ListenFault}
 use Rattle.host_lines.specs.declared.lines.ListenFault.TheVariants as listen
 use Rattle.host_lines.specs.Traffic.{Answer as LineAnswer, Replied, listening}
@@ -7,21 +8,24 @@ use Rattle.host_lines.specs.Told.{IsFirst, record_in, ahead_of}
 use Rattle.host_lines.specs.State.{LineState}
 use Rattle.telnet_lines.specs.Line.{LineOf, IsSettled, unconnected}
 use Rattle.telnet_lines.specs.Joined.{seen_line}
+use Rattle.terminal_ports.specs.Listening.{IsListening}
+use Rattle.terminal_ports.proofs.PortsApart.{changed-set, changed-none}
+use Rattle.command_session.specs.LineEffects.{terminal_place}
 use Rattle.unit_trait.specs.declared.kind.UnitName.{UnitName}
 use Rattle.saved_files.specs.declared.file_faults.RestoreFault.{RestoreFault}
 use Rattle.saved_files.specs.declared.file_faults.RestoreFault.TheVariants as restore
-use Rattle.state_transfer.specs.Listening.{wants_port, with_port, IsListening, IsRefusedPort, LeavesLines, AreClosed}
+use Rattle.state_transfer.specs.Listening.{wants_port, with_port, IsRefusedPort, LeavesLines, AreClosed}
 use Rattle.saved_session.specs.Parts.{State}
 use Rattle.state_transfer.specs.PutBack.{put_back}
 use Rattle.saved_files.specs.Putting.{FileRefusal, SaysFirst}
 use Rattle.command_session.specs.declared.next.Next.TheVariants.{Go}
 use Rattle.command_session.specs.declared.fault.CommandFault.TheVariants.{PortFailed}
 use Rattle.state_commands.specs.StateFaults.{restore_fault}
-use Rattle.command_session.specs.LinesLeft.{Listened, LinesLeft, Unlistened}
+use Rattle.command_session.specs.LinesLeft.{LinesLeft, Unlistened}
 use Rattle.command_session.specs.Live.{Live}
 use Rattle.state_commands.specs.StateEffects.{refusal_fault, refusal_used, restored_by, ported_back, listened_back}
 use Rattle.command_session.proofs.KeptLemmas.{lines-kept}
-use Rattle.command_session.proofs.PortLemmas.{left-listened, left-unlistened, seen-still}
+use Rattle.command_session.proofs.PortLemmas.{left-listened, left-unlistened, session-listened, seen-still}
 use Rattle.state_commands.proofs.RestoreLemmas.{ends, back-did, failed-did, unread-want}
 use Rattle.command_session.proofs.WholeLemmas.{own_both}
 use Rattle.file_commands.specs.declared.note.Subject.TheVariants as subject
@@ -44,33 +48,37 @@ use Rattle.state_commands.specs.StateEffects.{restore_notes, restore_reply}
 use Rattle.command_session.specs.WholeCalls.{read_notes}
 use Rattle.command_session.specs.Doing.{Did, IsRestoreAnswer}
 
-as-listened : (tells : Bool) (port : ℕ) (result : Result (Unit {0}) ListenFault) (old new : LineState) → IsListening tells port result old new → Listened tells port result old new
-as-listened tells port result old new is = record {
-  told = is.told;
-  listens = is.listens;
-  stands = is.stands;
-  behind = is.behind;
-  sent = is.sent;
-  counted = is.counted;
-}
-
 closed-settled : (line : LineOf ℕ) → line ≡ unconnected None → IsSettled line
 closed-settled line is = subst IsSettled (sym is) (record { port = λ _. refl; nothing = λ _. refl; keys = omega arith; output = omega arith })
 
+closed-at : (place : ℕ) (lines : List (LineOf ℕ)) (line : LineOf ℕ) → slice_get lines place ≡ Some line → AreClosed lines → line ≡ unconnected None
+closed-at place [] line at closed = absurd (cc)
+closed-at zero (l ∷ lines) line at closed = sym (same_Some l line at) ∙ closed.0
+closed-at (suc place) (l ∷ lines) line at closed = closed-at place lines line at closed.1
+
 -- a wanted port was refused
-refused-left : (tells : Bool) (port : ℕ) (before : List (LineOf ℕ)) (fault : ListenFault) (old new : LineState) → wants_port port before ≡ true → IsListening tells port (Err fault) old new
+refused-left : (tells : Bool) (port : ℕ) (before : List (LineOf ℕ)) (fault : ListenFault) (old new : LineState) → IsListening tells port (Err fault) old new
     → LinesLeft tells old before new before
-refused-left tells zero before fault old new wanted is = absurd (cc)
-refused-left tells (suc n) [] fault old new wanted is = absurd (cc)
-refused-left tells (suc n) (line ∷ others) fault old new wanted is = left-unlistened tells old new line others (suc n) fault (as-listened tells (suc n) (Err fault) old new is)
+refused-left tells port before fault old new is = left-unlistened tells old new before port fault is
 
 -- the session was put back
 done-left : (tells : Bool) (port : ℕ) (before : List (LineOf ℕ)) (old new : LineState) → AreClosed before → LeavesLines tells port before (Ok tt) old new
     → LinesLeft tells old before new (with_port port before)
 done-left tells zero before old new closed left = subst (λ (s : LineState). LinesLeft tells old before s before) (sym (left.1 refl)) (lines-kept tells old before before refl)
-done-left tells (suc n) [] old new closed left = subst (λ (s : LineState). LinesLeft tells old [] s []) (sym (left.1 refl)) (lines-kept tells old [] [] refl)
-done-left tells (suc n) (line ∷ others) old new closed left =
-    left-listened tells old new line others (suc n) (as-listened tells (suc n) (Ok tt) old new (left.0 refl)) (ap (λ (l : LineOf ℕ). l.port) closed.0) (closed-settled line closed.0)
+done-left tells (suc n) before old new closed left = by (slice_get before terminal_place) refl
+  where
+    given : LineOf ℕ
+    given = unconnected (Some (suc n))
+
+    by : (o : Option (LineOf ℕ)) → slice_get before terminal_place ≡ o → LinesLeft tells old before new (with_port (suc n) before)
+    by None none =
+        subst (λ (ls : List (LineOf ℕ)). LinesLeft tells old before new ls) (sym (changed-none (λ (l : LineOf ℕ). given) terminal_place before none))
+        (subst (λ (s : LineState). LinesLeft tells old before s before) (sym (left.1 (ap is_some none))) (lines-kept tells old before before refl))
+    by (Some line) at =
+        let free = closed-at terminal_place before line at closed in
+        subst (λ (ls : List (LineOf ℕ)). LinesLeft tells old before new ls) (changed-set (λ (l : LineOf ℕ). given) terminal_place before line at)
+        (left-listened terminal_place tells old new before line (suc n) at (left.0 (ap is_some at)) (ap (λ (l : LineOf ℕ). l.port) free) (closed-settled line free)
+        (session-listened before (suc n) (λ none. absurd (omega (arith, none)))))
 
 pub restore-done : (tells : Bool) (port : ℕ) (before after : List (LineOf ℕ)) (old new : LineState) → AreClosed before → LeavesLines tells port before (Ok tt) old new
     → after ≡ with_port port before → LinesLeft tells old before new after
@@ -85,9 +93,9 @@ pub restore-refused : (tells : Bool) (port : ℕ) (before after : List (LineOf �
 restore-refused tells port before after fault old new left is = subst (λ (ls : List (LineOf ℕ)). LinesLeft tells old before new ls) (sym is) (by fault left)
   where
     by : (fault : RestoreFault) → LeavesLines tells port before (Err fault) old new → LinesLeft tells old before new before
-    by restore.Port left = refused-left tells port before listen.Failed old new left.0 left.1
+    by restore.Port left = refused-left tells port before listen.Failed old new left.1
     by restore.OutOfMemory (inl same) = same-left tells before old new same
-    by restore.OutOfMemory (inr refused) = refused-left tells port before listen.OutOfMemory old new refused.0 refused.1
+    by restore.OutOfMemory (inr refused) = refused-left tells port before listen.OutOfMemory old new refused.1
     by (restore.NoFile unit) same = same-left tells before old new same
     by (restore.TooLong unit) same = same-left tells before old new same
     by (restore.Changed unit) same = same-left tells before old new same
@@ -97,8 +105,11 @@ restore-refused tells port before after fault old new left is = subst (λ (ls : 
 
 wants-seen : (port : ℕ) (s : LineState) (lines : List (LineOf ℕ)) → wants_port port (map (seen_line s) lines) ≡ wants_port port lines
 wants-seen zero s lines = refl
-wants-seen (suc n) s [] = refl
-wants-seen (suc n) s (line ∷ lines) = refl
+wants-seen (suc n) s lines = ap is_some (slice_get-map (seen_line s) lines terminal_place) ∙ by (slice_get lines terminal_place)
+  where
+    by : (o : Option (LineOf ℕ)) → is_some (option_map (seen_line s) o) ≡ is_some o
+    by None = refl
+    by (Some line) = refl
 
 -- where no file is refused, by what is left of the lines: the session is put back
 module _ (used : ℕ) (s : State) (live new : Live) (old after : LineState) (whole : List LineAnswer) (lines : List (LineOf ℕ))

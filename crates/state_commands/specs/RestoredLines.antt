@@ -3,13 +3,14 @@ use Rattle.std.specs.Prelude.{◌≡◌, ℕ, ◌<◌, ◌^◌, Bool, true, fals
 use Rattle.fault_counts.specs.Faults.{raised}
 use Rattle.host_lines.specs.State.{LineState}
 use Rattle.telnet_lines.specs.Line.{LineOf}
-use Rattle.state_transfer.specs.Listening.{wants_port, with_port as ported_by, IsListening, AreClosed}
+use Rattle.terminal_ports.specs.Listening.{IsListening}
+use Rattle.state_transfer.specs.Listening.{wants_port, with_port as ported_by, AreClosed}
 use Rattle.command_session.specs.declared.fault.CommandFault.TheVariants.{PortFailed}
 use Rattle.command_session.specs.Reply.{Answer}
 use Rattle.command_session.specs.LinesLeft.{NotListened}
 use Rattle.command_session.specs.PortAnswers.{LinesStay}
 
--- RESTORE, by its answer: no line had a port, and the first one has that of the saved session, or none, and it was
+-- RESTORE, by its answer: no line had a port, and line 0 has that of the saved session, or none, and it was
 -- listened on; or the listening failed; or nothing was asked.
 pub record RestoresPort (tells : Bool) (old : LineState) (before : List (LineOf ℕ)) (new : LineState) (after : List (LineOf ℕ)) : Type 0 where
   pub port : ℕ

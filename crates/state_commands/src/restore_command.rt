@@ -165,13 +165,22 @@ fn saved_in(reader: StateReader) -> Result<Saved, StateFault>
     reader.finish()
 }
 
-// Whether a unit has a file, or a line a port.
+// Whether a unit has a file, or a line a port, that of the console too.
 fn is_occupied<U: Unit>(machine: &Machine<U>) -> bool
     ensures test { result ≡ is_occupied (attached_in machine.now) machine.now.lines }
     ensures nothing { result ≡ false → attached_files machine.now ≡ nothing_attached }
     ensures closed { result ≡ false → AreClosed machine.now.lines }
 {
-    !machine.attached().is_empty() || has_port(machine.lines())
+    !machine.attached().is_empty() || is_ported(machine)
+}
+
+// Whether the console line or a terminal line has a port.
+#[tactic(auto, using(crate::proofs::ConsoleFirst::console_first))]
+fn is_ported<U: Unit>(machine: &Machine<U>) -> bool
+    ensures test { result ≡ has_port machine.now.lines }
+    ensures closed { result ≡ false → AreClosed machine.now.lines }
+{
+    machine.console_at().port().is_some() || has_port(machine.lines())
 }
 
 // Whether one of these lines has a port.

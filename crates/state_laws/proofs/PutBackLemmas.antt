@@ -1,6 +1,6 @@
 -- What was saved of a session is put back.
 use Rattle.std.proofs.Common.{◌≡◌, ◌≢◌, ℕ, zero, suc, ◌+◌, ◌-◌, ◌*◌, ◌/◌, ◌^◌, ◌<◌, Bool, true, false, List, [], ◌∷◌, ◌++◌, length, take, drop, map, replicate, get_or, Option, Some, None, refl, sym, ap, subst, ◌∙◌, arith}
-use Rattle.std.specs.Prelude.{slice_set}
+use Rattle.std.specs.Prelude.{slice_get, slice_set}
 use Rattle.std.specs.List.{AllByRecursion}
 use Rattle.std.proofs.lemmas.List.Concat.{flat_map-cons}
 use Rattle.std.proofs.Math.Seq.{get_or-append_seam, set-append_seam}
@@ -23,7 +23,8 @@ use Rattle.expect_actions.specs.declared.expects.Expect.{Expect}
 use Rattle.expect_actions.specs.Sends.{Send}
 use Rattle.expect_actions.specs.Watch.{WatchState, forgotten}
 use Rattle.unit_list.specs.BusOrder.{place_of}
-use Rattle.nova_machine.specs.Machine.{MachineState}
+use Rattle.nova_machine.specs.Machine.{MachineState, place_of as line_place}
+use Rattle.terminal_ports.specs.Ports.{changed_at, HaveNone, OnlyOneHas}
 use Rattle.nova_machine.specs.Seen.{Seen, unnumbered, erased, attached_in}
 use Rattle.nova_machine.specs.Valid.{CopyIsFile}
 use Rattle.saved_session.specs.Parts.{FilePart}
@@ -31,7 +32,7 @@ use Rattle.saved_session.specs.Ranges.{kind_at}
 use Rattle.saved_files.specs.declared.taking.UnitPlace.{UnitPlace}
 use Rattle.saved_files.specs.Putting.{attachment_of, with_all, copy_of}
 use Rattle.saved_files.specs.Taking.{unit_at, file_places, flag_of, saved_file, saved_at, saved_files}
-use Rattle.state_transfer.specs.Session.{saved_unit, saved_event, saved_machine, port_number, saved_port, saved}
+use Rattle.state_transfer.specs.Session.{saved_unit, saved_event, saved_machine, port_number, port_of, saved_port, saved}
 use Rattle.saved_session.specs.SavedWatch.{saved_break, saved_expect, saved_send, saved_watch}
 use Rattle.state_transfer.specs.PutBack.{is_set, memory_from, unit_from, unit_named, event_from, held_from, machine_from, port_from, lines_from, put_back, IsIdleLine, CanBeSaved}
 use Rattle.state_laws.specs.Laws.{SavingPutsBack}
@@ -276,16 +277,38 @@ port-back None some = refl
 port-back (Some zero) some = absurd (some refl)
 port-back (Some (suc n)) some = refl
 
-lines-back : (lines present : List (LineOf Peer)) → length lines ≡ 1 → AllByRecursion IsIdleLine lines
+-- lines to which nobody is connected, and none of which has a port
+closed-back : (lines present : List (LineOf Peer)) → HaveNone lines → AllByRecursion IsIdleLine lines → length present ≡ length lines
+    → map (λ (line : LineOf Peer). unconnected None) present ≡ lines
+closed-back [] [] none idle same = refl
+closed-back [] (p ∷ present) none idle same = absurd (omega (arith, same))
+closed-back (line ∷ lines) [] none idle same = absurd (omega (arith, same))
+closed-back (line ∷ lines) (p ∷ present) none idle same =
+    ap (λ (x : Option ℕ). unconnected x ∷ map (λ (l : LineOf Peer). unconnected None) present) (sym none.0)
+    ∙ ap (λ (x : LineOf Peer). x ∷ map (λ (l : LineOf Peer). unconnected None) present) (sym idle.0.nobody)
+    ∙ ap (λ (l : List (LineOf Peer)). line ∷ l) (closed-back lines present none.1 idle.1 (omega (arith, same)))
+
+-- .. and the line that may have one, at a place
+only-back : (place : ℕ) (lines present : List (LineOf Peer)) → OnlyOneHas place lines → AllByRecursion IsIdleLine lines → length present ≡ length lines
+    → changed_at place (λ (line : LineOf Peer). unconnected (port_from (port_of (slice_get lines place)))) (map (λ (line : LineOf Peer). unconnected None) present) ≡ lines
+only-back place [] [] only idle same = refl
+only-back place [] (p ∷ present) only idle same = absurd (omega (arith, same))
+only-back place (line ∷ lines) [] only idle same = absurd (omega (arith, same))
+only-back zero (line ∷ lines) (p ∷ present) only idle same =
+    ap (λ (x : Option ℕ). unconnected x ∷ map (λ (l : LineOf Peer). unconnected None) present) (port-back line.port idle.0.port)
+    ∙ ap (λ (x : LineOf Peer). x ∷ map (λ (l : LineOf Peer). unconnected None) present) (sym idle.0.nobody)
+    ∙ ap (λ (l : List (LineOf Peer)). line ∷ l) (closed-back lines present only idle.1 (omega (arith, same)))
+only-back (suc place) (line ∷ lines) (p ∷ present) only idle same =
+    let more : List (LineOf Peer) =
+    changed_at place (λ (l : LineOf Peer). unconnected (port_from (port_of (slice_get lines place)))) (map (λ (l : LineOf Peer). unconnected None) present) in
+    ap (λ (x : Option ℕ). unconnected x ∷ more) (sym only.0)
+    ∙ ap (λ (x : LineOf Peer). x ∷ more) (sym idle.0.nobody)
+    ∙ ap (λ (l : List (LineOf Peer)). line ∷ l) (only-back place lines present only.1 idle.1 (omega (arith, same)))
+
+lines-back : (lines present : List (LineOf Peer)) → OnlyOneHas (line_place 0) lines → AllByRecursion IsIdleLine lines
     → length present ≡ length lines → lines_from (saved_port lines) present ≡ lines
 unfolding saved_port
-lines-back [] present one idle same = absurd (omega (arith, one))
-lines-back (line ∷ []) [] one idle same = absurd (omega (arith, same))
-lines-back (line ∷ []) (p ∷ []) one idle same =
-    let port = port-back line.port idle.0.port in
-    ap (λ (x : Option ℕ). unconnected x ∷ []) port ∙ ap (λ (x : LineOf Peer). x ∷ []) (sym idle.0.nobody)
-lines-back (line ∷ []) (p ∷ q ∷ others) one idle same = absurd (omega (arith, same))
-lines-back (line ∷ next ∷ lines) present one idle same = absurd (omega (arith, one))
+lines-back lines present only idle same = only-back (line_place 0) lines present only idle same
 
 -- ---- the whole
 
@@ -295,7 +318,7 @@ back s present can same as_many =
     let attached = with_all no_attachments (saved_files s.files (attached_in s.machine) file_places) in
     let machine = ap (machine_from (saved_machine s.machine) attached) same ∙ machine-back s can in
     let watch = watch-back s.watch can.watch in
-    let lines = lines-back s.lines present.lines can.line can.idle as_many in
+    let lines = lines-back s.lines present.lines can.others can.idle as_many in
     λ i. record {
       machine = machine i;
       watch = watch i;

@@ -1,9 +1,11 @@
 -- A session is in range once a valid state was put back.
-use Rattle.std.proofs.Common.{ℕ, zero, suc, ◌≤◌, ◌<◌, ◌^◌, List, [], ◌∷◌, Option, None, IfSome, refl, sym, subst, arith}
+use Rattle.std.proofs.Common.{ℕ, zero, suc, ◌≤◌, ◌<◌, ◌^◌, List, [], ◌∷◌, map, Option, None, IfSome, refl, sym, subst, arith}
 use Rattle.std.specs.List.{AllByRecursion}
 use Rattle.std.proofs.lemmas.Bool.{leb-true}
 use Rattle.host_lines.specs.Traffic.{Peer}
-use Rattle.telnet_lines.specs.Line.{LineOf}
+use Rattle.telnet_lines.specs.Line.{LineOf, unconnected}
+use Rattle.terminal_ports.specs.Ports.{changed_at}
+use Rattle.nova_machine.specs.Machine.{place_of as line_place}
 use Rattle.unit_files.specs.Attachments.{Attachment, no_attachments, attachment_at}
 use Rattle.unit_files.specs.Buffer.{disk_unit}
 use Rattle.expect_actions.specs.KeysFile.{most_keys}
@@ -26,20 +28,29 @@ port-in-range : (port : ℕ) → port < 2 ^ 16 → IfSome (port_from port) IsPor
 port-in-range zero low = tt
 port-in-range (suc port) low = (omega arith, low)
 
-lines-in-range : (port : ℕ) (lines : List (LineOf Peer)) → port < 2 ^ 16 → AllByRecursion ValidLine lines
-    → AllByRecursion ValidLine (lines_from port lines)
-lines-in-range port [] low are = tt
-lines-in-range port (line ∷ lines) low are = (
-  record {
-    port = port-in-range port low;
-    nothing = λ none. refl;
-    keys = tt;
-    output = tt;
-    few_keys = omega arith;
-    few_bytes = omega arith;
-  },
-  are.1,
-)
+idle-in-range : (port : Option ℕ) → IfSome port IsPort → ValidLine (unconnected port)
+idle-in-range port is = record {
+  port = is;
+  nothing = λ none. refl;
+  keys = tt;
+  output = tt;
+  few_keys = omega arith;
+  few_bytes = omega arith;
+}
+
+closed-in-range : (lines : List (LineOf Peer)) → AllByRecursion ValidLine (map (λ (line : LineOf Peer). unconnected None) lines)
+closed-in-range [] = tt
+closed-in-range (line ∷ lines) = (idle-in-range None tt, closed-in-range lines)
+
+one-in-range : (place : ℕ) (port : Option ℕ) (lines : List (LineOf Peer)) → IfSome port IsPort → AllByRecursion ValidLine lines
+    → AllByRecursion ValidLine (changed_at place (λ (line : LineOf Peer). unconnected port) lines)
+one-in-range place port [] is are = tt
+one-in-range zero port (line ∷ lines) is are = (idle-in-range port is, are.1)
+one-in-range (suc place) port (line ∷ lines) is are = (are.0, one-in-range place port lines is are.1)
+
+lines-in-range : (port : ℕ) (lines : List (LineOf Peer)) → port < 2 ^ 16 → AllByRecursion ValidLine (lines_from port lines)
+lines-in-range port lines low =
+    one-in-range (line_place 0) (port_from port) (map (λ (line : LineOf Peer). unconnected None) lines) (port-in-range port low) (closed-in-range lines)
 
 valid : (v : State) (present : Seen) → Valid v → ValidSeen present → ValidSeen (put_back v present)
 unfolding machine_from
@@ -52,7 +63,7 @@ valid v present is in_range = record {
   known = in_range.known;
   keys = in_range.keys;
   files = in_range.files;
-  lines = lines-in-range v.port present.lines is.port in_range.lines;
+  lines = lines-in-range v.port present.lines is.port;
   ahead = in_range.ahead;
 }
 

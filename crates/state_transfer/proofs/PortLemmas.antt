@@ -1,11 +1,13 @@
 -- Whose refusal that of a session is, and what it leaves of the lines.
-use Rattle.std.proofs.Common.{◌≡◌, inl, inr, ℕ, Bool, true, List, Err, refl}
+use Rattle.std.proofs.Common.{◌≡◌, ◌≢◌, inl, inr, ℕ, zero, suc, Bool, true, false, List, slice_get, slice_set, Some, None, is_some, Err, refl, ap, sym, arith}
 use Rattle.file_traits.specs.State.{FileState}
 use Rattle.host_lines.specs.State.{LineState}
-use Rattle.telnet_lines.specs.Line.{LineOf}
+use Rattle.telnet_lines.specs.Line.{LineOf, unconnected}
+use Rattle.terminal_ports.proofs.PortsApart.{changed-set, changed-none}
+use Rattle.nova_machine.specs.Machine.{place_of as line_place}
 use Rattle.saved_files.specs.declared.file_faults.RestoreFault.{RestoreFault}
 use Rattle.saved_files.specs.declared.file_faults.RestoreFault.TheVariants as fault
-use Rattle.state_transfer.specs.Listening.{IsHeardOn, IsPortFault, LeavesLines, wants_port}
+use Rattle.state_transfer.specs.Listening.{IsHeardOn, IsPortFault, LeavesLines, wants_port, with_port}
 use Rattle.saved_session.specs.Parts.{FilePart}
 use Rattle.saved_files.specs.PuttingCauses.{count_behind, openings_named, IsCompared, OpeningsStand, SessionCause}
 use Rattle.saved_files.specs.Putting.{IsOfThese, IsOfSession}
@@ -85,3 +87,30 @@ port-unopened tells (fault.TooLong unit) is = absurd is
 port-unopened tells (fault.Changed unit) is = absurd is
 port-unopened tells fault.Port is = refl
 port-unopened tells fault.OutOfMemory is = refl
+
+-- ---- line 0 and its port
+
+pub with_no_port : (port : ℕ) (lines : List (LineOf ℕ)) → port ≡ 0 → lines ≡ with_port port lines
+with_no_port zero lines none = refl
+with_no_port (suc n) lines none = absurd (omega (arith, none))
+
+pub with_no_line : (port : ℕ) (lines : List (LineOf ℕ)) → slice_get lines (line_place 0) ≡ None → lines ≡ with_port port lines
+with_no_line zero lines none = refl
+with_no_line (suc n) lines none = sym (changed-none (λ (line : LineOf ℕ). unconnected (Some (suc n))) (line_place 0) lines none)
+
+pub with_a_port : (port : ℕ) (lines : List (LineOf ℕ)) (line : LineOf ℕ) → port ≢ 0 → slice_get lines (line_place 0) ≡ Some line
+    → slice_set lines (line_place 0) (unconnected (Some port)) ≡ with_port port lines
+with_a_port zero lines line some at = absurd (some refl)
+with_a_port (suc n) lines line some at = changed-set (λ (line : LineOf ℕ). unconnected (Some (suc n))) (line_place 0) lines line at
+
+pub wants_no_port : (port : ℕ) (lines : List (LineOf ℕ)) → port ≡ 0 → wants_port port lines ≡ false
+wants_no_port zero lines none = refl
+wants_no_port (suc n) lines none = absurd (omega (arith, none))
+
+pub wants_no_line : (port : ℕ) (lines : List (LineOf ℕ)) → slice_get lines (line_place 0) ≡ None → wants_port port lines ≡ false
+wants_no_line zero lines none = refl
+wants_no_line (suc n) lines none = ap is_some none
+
+pub wants_a_port : (port : ℕ) (lines : List (LineOf ℕ)) (line : LineOf ℕ) → port ≢ 0 → slice_get lines (line_place 0) ≡ Some line → wants_port port lines ≡ true
+wants_a_port zero lines line some at = absurd (some refl)
+wants_a_port (suc n) lines line some at = ap is_some at

@@ -16,7 +16,8 @@ use Rattle.event_queue.specs.EventList.{Event, activated}
 use Rattle.event_queue.specs.Agenda.{asked_in_order}
 use Rattle.event_queue.proofs.Agendas.{agenda-stands}
 use Rattle.nova_machine.specs.Core.{IsAmong}
-use Rattle.nova_machine.specs.Machine.{MachineState}
+use Rattle.nova_machine.specs.Machine.{MachineState, place_of as line_place}
+use Rattle.terminal_ports.specs.Ports.{changed_at}
 use Rattle.nova_machine.specs.Seen.{unnumbered, erased, Beside}
 use Rattle.unit_files.specs.Attachments.{Held, attachments_of, no_attachments}
 use Rattle.saved_session.specs.declared.saved.SavedUnit.{SavedUnit}
@@ -183,21 +184,34 @@ seen-as old new p becomes attached files here copy =
 -- ---- the session
 
 closed-lines : (old new : LineState) (lines : List (LineOf ℕ)) → AreClosed lines
-    → map (seen_line new) lines ≡ map (seen_line old) lines
+    → map (seen_line new) lines ≡ map (λ (line : LineOf Peer). unconnected None) (map (seen_line old) lines)
 closed-lines old new [] closed = refl
 closed-lines old new (line ∷ lines) closed =
-    let one : seen_line new line ≡ seen_line old line =
-    ap (seen_line new) closed.0 ∙ sym (ap (seen_line old) closed.0) in
-    λ i. one i ∷ closed-lines old new lines closed.1 i
+    λ i. ap (seen_line new) closed.0 i ∷ closed-lines old new lines closed.1 i
+
+-- a line that gets a port is seen so
+seen-changed : (s : LineState) (place : ℕ) (port : Option ℕ) (lines : List (LineOf ℕ))
+    → map (seen_line s) (changed_at place (λ (line : LineOf ℕ). unconnected port) lines)
+    ≡ changed_at place (λ (line : LineOf Peer). unconnected port) (map (seen_line s) lines)
+seen-changed s place port [] = refl
+seen-changed s zero port (line ∷ lines) = refl
+seen-changed s (suc place) port (line ∷ lines) =
+    ap (λ (l : List (LineOf Peer)). seen_line s line ∷ l) (seen-changed s place port lines)
+
+none-changed : (place : ℕ) (lines : List (LineOf Peer))
+    → map (λ (line : LineOf Peer). unconnected None) lines
+    ≡ changed_at place (λ (line : LineOf Peer). unconnected None) (map (λ (line : LineOf Peer). unconnected None) lines)
+none-changed place [] = refl
+none-changed zero (line ∷ lines) = refl
+none-changed (suc place) (line ∷ lines) = ap (λ (l : List (LineOf Peer)). unconnected None ∷ l) (none-changed place lines)
 
 port-lines : (port : ℕ) (old new : LineState) (lines : List (LineOf ℕ)) → AreClosed lines
     → map (seen_line new) (with_port port lines) ≡ lines_from port (map (seen_line old) lines)
-port-lines zero old new [] closed = refl
-port-lines (suc n) old new [] closed = refl
-port-lines zero old new (line ∷ lines) closed =
-    λ i. ap (seen_line new) closed.0 i ∷ closed-lines old new lines closed.1 i
-port-lines (suc n) old new (line ∷ lines) closed =
-    ap (λ (l : List (LineOf Peer)). unconnected (Some (suc n)) ∷ l) (closed-lines old new lines closed.1)
+port-lines zero old new lines closed =
+    closed-lines old new lines closed ∙ none-changed (line_place 0) (map (seen_line old) lines)
+port-lines (suc n) old new lines closed =
+    seen-changed new (line_place 0) (Some (suc n)) lines
+    ∙ ap (changed_at (line_place 0) (λ (line : LineOf Peer). unconnected (Some (suc n)))) (closed-lines old new lines closed)
 
 pub is-put-back : (s : State) (before after : Beside) (old new : MachineState) → after.files ≡ before.files
     → erased new ≡ machine_from s.machine (with_all no_attachments s.files) before.files

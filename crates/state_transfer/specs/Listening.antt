@@ -1,36 +1,25 @@
 -- The port of line 0 is listened on.
 use Rattle.std.specs.List.{AllByRecursion}
-use Rattle.std.specs.Prelude.{◌≡◌, ◌⊎◌, ℕ, zero, suc, Bool, true, false, IsTrue, List, [], ◌∷◌, Some, None, Result, Ok}
-use Rattle.std.specs.Prelude.{Err}
+use Rattle.std.specs.Prelude.{◌≡◌, ◌⊎◌, ℕ, zero, suc, Bool, true, false, is_some, List, slice_get, Some, None, Result, Ok, Err}
 use Rattle.host_lines.specs.declared.lines.ListenFault.{ListenFault}
 use Rattle.host_lines.specs.declared.lines.ListenFault.TheVariants as listen
-use Rattle.host_lines.specs.LineCalls.{Listens, ports_after, listen_faults}
-use Rattle.host_lines.specs.State.{LineState, parties}
+use Rattle.host_lines.specs.State.{LineState}
 use Rattle.telnet_lines.specs.Line.{LineOf, unconnected}
+use Rattle.terminal_ports.specs.Ports.{changed_at}
+use Rattle.terminal_ports.specs.Listening.{IsListening}
+use Rattle.nova_machine.specs.Machine.{place_of as line_place}
 use Rattle.saved_files.specs.declared.file_faults.RestoreFault.{RestoreFault}
 use Rattle.saved_files.specs.declared.file_faults.RestoreFault.TheVariants as fault
 
--- whether a port is listened on: it is not 0, and there is a line for it
+-- whether a port is listened on: it is not 0, and there is a line 0 for it
 abbrev pub wants_port : {P : Type 0} → ℕ → List (LineOf P) → Bool
 wants_port zero lines = false
-wants_port (suc n) [] = false
-wants_port (suc n) (line ∷ others) = true
+wants_port (suc n) lines = is_some (slice_get lines (line_place 0))
 
 -- line 0 has that port, and nobody is connected; 0 is none, and changes nothing
 abbrev pub with_port : ℕ → List (LineOf ℕ) → List (LineOf ℕ)
 with_port zero lines = lines
-with_port (suc n) [] = []
-with_port (suc n) (line ∷ others) = unconnected (Some (suc n)) ∷ others
-
--- what a listening leaves of the outside: the port is listened on from then on, or is not
-pub record IsListening (tells : Bool) (port : ℕ) (result : Result (Unit {0}) ListenFault) (old new : LineState) : Type 0
-  where
-    pub told : IsTrue tells → Listens old.told new.told result
-    pub listens : new.listens ≡ ports_after port result old.listens
-    pub stands : new.stands ≡ old.stands
-    pub behind : parties new ≡ parties old
-    pub sent : new.sent ≡ old.sent
-    pub counted : new.faults ≡ listen_faults result old.faults
+with_port (suc n) lines = changed_at (line_place 0) (λ (line : LineOf ℕ). unconnected (Some (suc n))) lines
 
 -- why a session is not put back, by a listening that came to nothing
 abbrev pub port_fault : ListenFault → RestoreFault

@@ -4,6 +4,7 @@ use Rattle.std.specs.List.{AllByRecursion}
 use Rattle.file_traits.specs.Lists.{NamedBytes}
 use Rattle.host_lines.specs.Traffic.{Peer}
 use Rattle.telnet_lines.specs.Line.{LineOf, unconnected}
+use Rattle.terminal_ports.specs.Ports.{changed_at, OnlyOneHas}
 use Rattle.unit_trait.specs.declared.kind.UnitName.{UnitName}
 use Rattle.unit_trait.specs.Calls.{UnitState}
 use Rattle.event_queue.specs.EventList.{Event}
@@ -13,7 +14,7 @@ use Rattle.nova_memory.specs.Memory.{MemoryState, IsMemory, IsSize}
 use Rattle.nova_processor.specs.declared.cpu.Cpu.{Cpu}
 use Rattle.nova_interrupts.specs.declared.interrupts.Ints.{Ints}
 use Rattle.expect_actions.specs.Watch.{forgotten}
-use Rattle.nova_machine.specs.Machine.{MachineState}
+use Rattle.nova_machine.specs.Machine.{MachineState, place_of as line_place}
 use Rattle.nova_machine.specs.Seen.{Seen, erased}
 use Rattle.nova_machine.specs.Valid.{DiskIsItsFile}
 use Rattle.saved_session.specs.declared.saved.SavedCpu.{SavedCpu}
@@ -81,10 +82,10 @@ abbrev pub port_from : ℕ → Option ℕ
 port_from zero = None
 port_from (suc n) = Some (suc n)
 
--- line 0 has that port or none, and nobody is connected; all other lines stay
+-- as many lines as these: line 0 has that port or none, all others have none, and nobody is connected
 abbrev pub lines_from : ℕ → List (LineOf Peer) → List (LineOf Peer)
-lines_from port [] = []
-lines_from port (line ∷ others) = unconnected (port_from port) ∷ others
+lines_from port lines =
+    changed_at (line_place 0) (λ (line : LineOf Peer). unconnected (port_from port)) (map (λ (line : LineOf Peer). unconnected None) lines)
 
 -- ---- all of it
 
@@ -107,8 +108,8 @@ pub record IsIdleLine (line : LineOf Peer) : Type 0 where
 -- The memory is one, of a size that a machine may have, and indirect references test bit 0 of the changed word, as no state
 -- file says otherwise; and each unit that takes files has its place. The machine is
 -- without numbers of files, with nothing kept beside the disk's copy and without its lines, as it is seen. The disk's copy is
--- that of its file, and nothing is to be written back. The actions of the stop that came last are forgotten. There is one line,
--- with nobody on it.
+-- that of its file, and nothing is to be written back. The actions of the stop that came last are forgotten. Nobody is on
+-- a line, and only line 0 has a port, as a state file names no other one.
 pub record CanBeSaved (s : Seen) : Type 0 where
   pub memory : IsMemory s.machine.processor.memory
   pub size : IsSize s.machine.processor.memory.size
@@ -118,5 +119,5 @@ pub record CanBeSaved (s : Seen) : Type 0 where
   pub copy : DiskIsItsFile s
   pub written : s.machine.disk.written ≡ false
   pub watch : s.watch ≡ forgotten s.watch
-  pub line : length s.lines ≡ 1
+  pub others : OnlyOneHas (line_place 0) s.lines
   pub idle : AllByRecursion IsIdleLine s.lines

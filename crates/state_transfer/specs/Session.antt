@@ -6,7 +6,7 @@ use Rattle.telnet_lines.specs.Line.{LineOf}
 use Rattle.unit_trait.specs.Calls.{UnitState}
 use Rattle.event_queue.specs.EventList.{Event}
 use Rattle.unit_list.specs.BusOrder.{place_of}
-use Rattle.nova_machine.specs.Machine.{MachineState}
+use Rattle.nova_machine.specs.Machine.{MachineState, place_of as line_place}
 use Rattle.nova_machine.specs.Seen.{Seen, attached_in}
 use Rattle.saved_session.specs.declared.saved.SavedCpu.{SavedCpu}
 use Rattle.saved_session.specs.declared.saved.SavedEvent.{SavedEvent}
@@ -57,7 +57,7 @@ port_of None = 0
 port_of (Some line) = port_number line.port
 
 unfoldable pub saved_port : List (LineOf Peer) → ℕ
-saved_port lines = port_of (slice_get lines 0)
+saved_port lines = port_of (slice_get lines (line_place 0))
 
 -- ---- all of it
 

@@ -1,6 +1,5 @@
 // A saved session is put back.
 ghost use Rattle.std.specs.Prelude.{◌≡◌, ℕ, List, Some, true, false, IsTrue, IsOk, OnOk, OnErr, IfErr, length};
-ghost use Rattle.telnet_lines.specs.Line.{unconnected};
 ghost use Rattle.unit_files.specs.Attachments.{attachments_of, attachment_at, no_attachments};
 ghost use Rattle.unit_files.specs.Buffer.{nothing_attached, disk_unit};
 ghost use Rattle.unit_files.specs.Causes.{AreFrom, OnlyNewCounts};
@@ -8,7 +7,7 @@ ghost use Rattle.unit_files.specs.InStep.{InStep};
 ghost use Rattle.unit_files.specs.Open.{AllOpen, Around};
 ghost use Rattle.nova_machine.specs.Machine.{attached_files, with_attached_files};
 ghost use Rattle.nova_machine.specs.Seen.{beside, erased};
-ghost use Rattle.state_transfer.specs.Listening.{IsHeardOn, IsListening, IsPortFault, LeavesLines, port_fault, wants_port, with_port};
+ghost use Rattle.state_transfer.specs.Listening.{IsHeardOn, IsPortFault, LeavesLines, port_fault, wants_port, with_port};
 ghost use Rattle.saved_session.specs.Parts.{state_in};
 ghost use Rattle.state_transfer.specs.PutBack.{machine_from};
 ghost use Rattle.saved_session.specs.SavedWatch.{watch_from};
@@ -26,24 +25,8 @@ use nova_machine::Machine;
 use saved_files::{RestoreFault, attach_all, give_back_all};
 use saved_session::{Saved, watch_from};
 use std::alloc::Global;
-use telnet_lines::Line;
+use terminal_ports::listen_for;
 use unit_trait::Unit;
-
-// Listens on a port for a line that has none.
-fn listen<L: Lines>(
-    alloc: Global,
-    line: &mut Line,
-    port: u16,
-    lines: &mut L,
-) -> Result<(), ListenFault>
-    ensures ok { OnOk result (line.new ≡ unconnected (Some port)) }
-    ensures refused { OnErr result (line.new ≡ line.old) }
-    ensures outside { IsListening L.tells port result (L.state lines.old) (L.state lines.new) }
-{
-    lines.listen(alloc, port)?;
-    line.set_port(Some(port));
-    Ok(())
-}
 
 // Why a port is not listened on.
 fn fault_of(fault: ListenFault) -> RestoreFault
@@ -76,7 +59,7 @@ pub fn put_port<U: Unit, L: Lines>(
     }
     match machine.line(0) {
         None => Ok(()),
-        Some(line) => match listen(alloc, line, port, lines) {
+        Some(line) => match listen_for(alloc, line, port, lines) {
             Ok(()) => Ok(()),
             Err(fault) => Err(fault_of(fault)),
         },

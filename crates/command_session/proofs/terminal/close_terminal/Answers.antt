@@ -1,7 +1,9 @@
-use Rattle.std.proofs.Common.{◌≡◌, refl, ap, sym, slice_get, Some, None}
-use Rattle.command_session.specs.LineEffects.{unported}
+use Rattle.std.proofs.Common.{◌≡◌, ◌∙◌, ap, sym, ℕ, List, slice_get, slice_set, Some, None}
+use Rattle.telnet_lines.specs.Line.{LineOf}
+use Rattle.command_session.specs.LineEffects.{terminal_place, closed}
 use Rattle.command_session.proofs.PortLemmas.{left-same, seen-none, close-left, close-seen}
-use Rattle.command_session.proofs.PortAnswerLemmas.{none-closes, first-closes}
+use Rattle.command_session.proofs.PortAnswerLemmas.{none-closes, line-closes}
+use Rattle.terminal_ports.proofs.PortsApart.{changed-set, changed-none}
 use Rattle.command_session.proofs.terminal.close_terminal.Goals as goal
 
 pub returns-in-None-clause-left : goal.returns-in-None-clause-left
@@ -9,19 +11,19 @@ returns-in-None-clause-left g c = left-same g.L.Lines.tells (g.L.Lines.state c.a
 
 pub returns-in-None-clause-seen : goal.returns-in-None-clause-seen
 returns-in-None-clause-seen g c = λ told.
-    let none : slice_get c.args.machine.now.lines 0 ≡ None = sym c.in-None.ensures.value in
-    seen-none unported (g.L.Lines.state c.args.lines.now) c.args.machine.now.lines refl none
+    let none : slice_get c.args.machine.now.lines terminal_place ≡ None = sym c.in-None.ensures.value in
+    seen-none closed terminal_place (g.L.Lines.state c.args.lines.now) c.args.machine.now.lines none
 
 pub returns-in-Some-clause-left : goal.returns-in-Some-clause-left
 returns-in-Some-clause-left g c =
-    let at : slice_get c.args.machine.now.lines 0 ≡ Some c.in-Some.line.now = sym c.in-Some.ensures.value in
-    close-left g.L.Lines.tells (g.L.Lines.state c.args.lines.now) (g.L.Lines.state c.close.new.lines) c.args.machine.now.lines c.in-Some.line.now c.close.new.line at
+    let at : slice_get c.args.machine.now.lines terminal_place ≡ Some c.in-Some.line.now = sym c.in-Some.ensures.value in
+    close-left terminal_place g.L.Lines.tells (g.L.Lines.state c.args.lines.now) (g.L.Lines.state c.close.new.lines) c.args.machine.now.lines c.in-Some.line.now c.close.new.line at
     (λ none. ap g.L.Lines.state (c.close.ensures.none none)) c.close.ensures.parties c.close.ensures.line c.close.ensures.outside
 
 pub returns-in-Some-clause-seen : goal.returns-in-Some-clause-seen
 returns-in-Some-clause-seen g c =
-    let at : slice_get c.args.machine.now.lines 0 ≡ Some c.in-Some.line.now = sym c.in-Some.ensures.value in
-    close-seen g.L.Lines.tells (g.L.Lines.state c.args.lines.now) (g.L.Lines.state c.close.new.lines) c.args.machine.now.lines c.in-Some.line.now c.close.new.line at
+    let at : slice_get c.args.machine.now.lines terminal_place ≡ Some c.in-Some.line.now = sym c.in-Some.ensures.value in
+    close-seen terminal_place g.L.Lines.tells (g.L.Lines.state c.args.lines.now) (g.L.Lines.state c.close.new.lines) c.args.machine.now.lines c.in-Some.line.now c.close.new.line at
     (λ none. ap g.L.Lines.state (c.close.ensures.none none)) c.close.ensures.parties c.close.ensures.line c.close.ensures.outside
 
 pub returns-in-None-clause-line : goal.returns-in-None-clause-line
@@ -29,6 +31,18 @@ returns-in-None-clause-line g c = none-closes (g.L.Lines.state c.args.lines.now)
 
 pub returns-in-Some-clause-line : goal.returns-in-Some-clause-line
 returns-in-Some-clause-line g c =
-    let at : slice_get c.args.machine.now.lines 0 ≡ Some c.in-Some.line.now = sym c.in-Some.ensures.value in
-    first-closes (g.L.Lines.state c.args.lines.now) (g.L.Lines.state c.close.new.lines) c.in-Some.line.now c.close.new.line (λ none. ap g.L.Lines.state (c.close.ensures.none none))
+    let at : slice_get c.args.machine.now.lines terminal_place ≡ Some c.in-Some.line.now = sym c.in-Some.ensures.value in
+    line-closes (g.L.Lines.state c.args.lines.now) (g.L.Lines.state c.close.new.lines) c.in-Some.line.now c.close.new.line (λ none. ap g.L.Lines.state (c.close.ensures.none none))
     c.args.machine.now.lines at c.close.ensures.line c.close.ensures.outside
+
+pub returns-in-None-clause-machine : goal.returns-in-None-clause-machine
+returns-in-None-clause-machine g c =
+    let none : slice_get c.args.machine.now.lines terminal_place ≡ None = sym c.in-None.ensures.value in
+    ap (λ (ls : List (LineOf ℕ)). record c.args.machine.now { lines = ls }) (sym (changed-none closed terminal_place c.args.machine.now.lines none))
+
+pub returns-in-Some-clause-machine : goal.returns-in-Some-clause-machine
+returns-in-Some-clause-machine g c =
+    let lines = c.args.machine.now.lines in
+    let at : slice_get lines terminal_place ≡ Some c.in-Some.line.now = sym c.in-Some.ensures.value in
+    ap (λ (ls : List (LineOf ℕ)). record c.args.machine.now { lines = ls })
+    (ap (slice_set lines terminal_place) c.close.ensures.line ∙ changed-set closed terminal_place lines c.in-Some.line.now at)

@@ -1,8 +1,9 @@
 use Rattle.std.proofs.Common.{◌≡◌, sym, refl, subst, Bool, slice_get, Some}
 use Rattle.command_session.specs.LinesLeft.{attaches_by}
+use Rattle.command_session.specs.LineEffects.{terminal_place}
 use Rattle.command_session.proofs.PortLemmas.{left-same}
 use Rattle.host_commands.proofs.PortCommands.{attach-unbuilt, attach-does, attach-left, attach-refused, attach-sent, attach-cause, attach-unrefused}
-use Rattle.command_session.proofs.PortAnswerLemmas.{none-attaches, first-attaches}
+use Rattle.command_session.proofs.PortAnswerLemmas.{none-attaches, line-attaches}
 use Rattle.host_commands.proofs.line_commands.attach_port.Goals as goal
 
 pub returns-in_default-clause-told : goal.returns-in_default-clause-told
@@ -15,7 +16,7 @@ returns-in_default-clause-left g c = rw (← c.session.view_is) (left-same g.L.L
 
 pub returns-clause-told : goal.returns-clause-told
 returns-clause-told g c =
-    let at : slice_get c.session.inside.machine.lines 0 ≡ Some c.in-Some.line.now = sym c.in-Some.ensures.value in
+    let at : slice_get c.session.inside.machine.lines terminal_place ≡ Some c.in-Some.line.now = sym c.in-Some.ensures.value in
     let old = g.L.Lines.state c.args.lines.now in
     let new = g.L.Lines.state c.attach_line.new.lines in
     rw (← c.session.view_is) (λ tells apart whole first files told text.
@@ -24,14 +25,14 @@ returns-clause-told g c =
 
 pub returns-clause-left : goal.returns-clause-left
 returns-clause-left g c =
-    let at : slice_get c.session.inside.machine.lines 0 ≡ Some c.in-Some.line.now = sym c.in-Some.ensures.value in
+    let at : slice_get c.session.inside.machine.lines terminal_place ≡ Some c.in-Some.line.now = sym c.in-Some.ensures.value in
     rw (← c.session.view_is)
     (attach-left g.L.Lines.tells (g.L.Lines.state c.args.lines.now) (g.L.Lines.state c.attach_line.new.lines) c.session.inside.machine.lines c.in-Some.line.now c.attach_line.new.line c.args.port c.attach_line.result at
     c.attach_line.ensures.told c.attach_line.ensures.settled)
 
 pub returns-clause-refused : goal.returns-clause-refused
 returns-clause-refused g c =
-    let at : slice_get c.session.inside.machine.lines 0 ≡ Some c.in-Some.line.now = sym c.in-Some.ensures.value in
+    let at : slice_get c.session.inside.machine.lines terminal_place ≡ Some c.in-Some.line.now = sym c.in-Some.ensures.value in
     rw (← c.session.view_is) (λ refused. (
       attach-refused g.L.Lines.tells (g.L.Lines.state c.args.lines.now) (g.L.Lines.state c.attach_line.new.lines) c.session.inside.machine c.in-Some.line.now c.attach_line.new.line c.args.port c.attach_line.result at
           c.attach_line.ensures.told refused,
@@ -48,7 +49,7 @@ returns-clause-cause g c =
 
 pub returns-clause-unrefused : goal.returns-clause-unrefused
 returns-clause-unrefused g c =
-    let at : slice_get c.session.inside.machine.lines 0 ≡ Some c.in-Some.line.now = sym c.in-Some.ensures.value in
+    let at : slice_get c.session.inside.machine.lines terminal_place ≡ Some c.in-Some.line.now = sym c.in-Some.ensures.value in
     rw (← c.session.view_is)
     (attach-unrefused g.L.Lines.tells (g.L.Lines.state c.args.lines.now) (g.L.Lines.state c.attach_line.new.lines) c.session.inside.machine c.in-Some.line.now c.attach_line.new.line c.args.port c.attach_line.result at
     c.attach_line.ensures.told)
@@ -59,7 +60,7 @@ returns-in_default-clause-line g c =
 
 pub returns-clause-line : goal.returns-clause-line
 returns-clause-line g c =
-    let at : slice_get c.session.inside.machine.lines 0 ≡ Some c.in-Some.line.now = sym c.in-Some.ensures.value in
+    let at : slice_get c.session.inside.machine.lines terminal_place ≡ Some c.in-Some.line.now = sym c.in-Some.ensures.value in
     rw (← c.session.view_is)
-    (first-attaches g.L.Lines.tells c.args.port c.attach_line.result (g.L.Lines.state c.args.lines.now) (g.L.Lines.state c.attach_line.new.lines) c.session.inside.machine.lines c.in-Some.line.now c.attach_line.new.line at
+    (line-attaches g.L.Lines.tells c.args.port c.attach_line.result (g.L.Lines.state c.args.lines.now) (g.L.Lines.state c.attach_line.new.lines) c.session.inside.machine.lines c.in-Some.line.now c.attach_line.new.line at
     c.attach_line.ensures.told)

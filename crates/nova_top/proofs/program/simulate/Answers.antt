@@ -23,7 +23,7 @@ use Rattle.nova_top.proofs.UsedLemmas.{words-named, course-told}
 use Rattle.command_words.specs.Words.{options_of, texts_of}
 use Rattle.command_words.specs.declared.options.Options.{Options}
 use Rattle.program_start.specs.Workload.{with_workload}
-use Rattle.nova_top.proofs.ProgramLemmas.{Begun, Made, begun-files, begun-line, new-slots, new-standard, workload-given, kept-exact, refused-exact, no-exact, usage-answer, files-answer, files-memory, files-status, files-cause, session-answer, memory-answer, session-cause, session-status, refused-status, kept-counted, refused-counted, complete-answer, never-unwritten, denied-unwritten, unwritten-whole}
+use Rattle.nova_top.proofs.ProgramLemmas.{Begun, Made, begun-files, begun-lines, new-slots, new-standard, workload-given, kept-exact, refused-exact, no-exact, usage-answer, files-answer, files-memory, files-status, files-cause, session-answer, memory-answer, session-cause, session-status, refused-status, kept-counted, refused-counted, complete-answer, never-unwritten, denied-unwritten, unwritten-whole}
 use Rattle.nova_top.proofs.CountLemmas.{no-openings, refused-openings, session-openings}
 use Rattle.nova_top.proofs.PortLemmas.{lines-unasked}
 use Rattle.nova_top.proofs.ResumptionLemmas.{resumes-saved}
@@ -165,7 +165,7 @@ told-input g c tells on =
 
 pub run_session-requires-clause-lines : goal.run_session-requires-clause-lines
 run_session-requires-clause-lines g c =
-    begun-line (NamesTold g.F.Files.tells c.in-Some.options) (texts_of c.args.words.now) c.in-Some.options _ c.open_with-opening.result (g.F.Files.state c.args.files.now) (g.F.Files.state c.begin.new.files)
+    begun-lines (NamesTold g.F.Files.tells c.in-Some.options) (texts_of c.args.words.now) c.in-Some.options _ c.open_with-opening.result (g.F.Files.state c.args.files.now) (g.F.Files.state c.begin.new.files)
     (begun g (goal.at.run_session-requires-clause-lines g c).After-run_session-arg-in-Ok-begin-2-1)
 
 pub run_session-requires-clause-bare : goal.run_session-requires-clause-bare

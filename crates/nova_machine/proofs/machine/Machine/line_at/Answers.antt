@@ -8,7 +8,7 @@ use Rattle.nova_machine.proofs.machine.Machine.line_at.Goals as goal
 pub returns-clause-there : goal.returns-clause-there
 returns-clause-there g c =
     let m = c.args.self.now in
-    let has : HasItsLines (kinds_of m.units) m.lines = subst (λ (x : MachineState). HasItsLines (kinds_of x.units) x.lines) c.self.view_is c.self.invariant.5 in
-    let lines : c.deref.result.now ≡ m.lines = c.deref.ensures.value ∙ ap (λ (x : MachineState). x.lines) c.self.view_is in
-    c.get.ensures.lookup.0 ∙ ap (λ (ls : List (LineOf ℕ)). nat_lt c.args.number (length ls)) lines
-    ∙ ap (λ (k : ℕ). nat_lt c.args.number k) (counted m.units m.lines has)
+    let items = c.self.inside.lines.items in
+    let has : HasItsLines (kinds_of m.units) items = subst (λ (x : MachineState). HasItsLines (kinds_of x.units) items) c.self.view_is c.self.invariant.5 in
+    c.get.ensures.lookup.0 ∙ ap (λ (ls : List (LineOf ℕ)). nat_lt c.args.number (length ls)) c.deref.ensures.value
+    ∙ ap (λ (k : ℕ). nat_lt c.args.number k) (counted m.units items has)
