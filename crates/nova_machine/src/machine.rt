@@ -1,10 +1,11 @@
-ghost use Rattle.std.specs.Prelude.{◌≡◌, ◌≤◌, ◌<◌, ◌^◌, ◌↔◌, List, [], map, replicate, None, IfOk, IsOk, OnOk, OnErr};
+ghost use Rattle.std.specs.Prelude.{◌≡◌, ◌≤◌, ◌<◌, ◌^◌, ◌↔◌, List, [], ◌∷◌, map, replicate, false, None, IfOk, IsOk, OnOk, OnErr};
 ghost use Rattle.event_queue.specs.EventList.{due};
 ghost use Rattle.unit_list.specs.Bus.{AllFit, kinds_of};
 ghost use Rattle.unit_list.specs.Places.{places_in};
 ghost use Rattle.unit_list.specs.Reset.{reset_units, reset_events};
 ghost use Rattle.file_traits.specs.State.{Opened};
 ghost use Rattle.unit_files.specs.Open.{AllOpen, Around};
+ghost use Rattle.nova_interrupts.specs.Interrupts.{no_interrupts};
 ghost use Rattle.nova_machine.specs.Core.{AreListed};
 ghost use Rattle.telnet_lines.specs.Line.{unconnected};
 ghost use Rattle.nova_machine.specs.Machine.{terminal_lines_for, line_count, HasItsLines};
@@ -149,26 +150,62 @@ impl<U: Unit> Machine<U> {
         ensures open { IfOk result (λ m. (opened : List Opened) → AllOpen m.slots opened) }
         ensures around { IfOk result (λ m. (opened : List Opened) → Around m.slots opened opened) }
     {
-        all_fit(units.as_slice());
         let places = Places::new(units.as_slice());
         let lines = lines_of(alloc, &places, units.as_slice())?;
-        let mut machine = Machine {
-            processor: Processor::new(alloc)?,
+        let console = Line::new(alloc)?;
+        let processor = Processor::new(alloc)?;
+        let events = Events::new(alloc)?;
+        let attached = Attached::new(alloc)?;
+        let mut machine =
+            Machine::assembled(processor, units, places, events, attached, console, lines);
+        machine.reset();
+        Ok(machine)
+    }
+
+    /// A machine of those parts at time 0, of which nothing was reset yet.
+    fn assembled(
+        processor: Processor,
+        units: Vec<U>,
+        places: Places,
+        events: Events,
+        attached: Attached,
+        console: Line,
+        lines: Vec<Line>,
+    ) -> Machine<U>
+        requires places { places ≡ places_in (kinds_of (map U.unit_state units.items)) }
+        requires events { events ≡ [] }
+        requires lines { HasItsLines (kinds_of (map U.unit_state units.items)) lines.items }
+        ensures { result ≡ record {
+            processor = processor;
+            ints = no_interrupts;
+            sr = 0;
+            stop_dev = false;
+            units = map U.unit_state units.items;
+            events = events;
+            time = 0;
+            taken = 0;
+            slots = attached.slots;
+            disk = attached.disk;
+            aside = attached.aside;
+            lines = console ∷ lines.items;
+        } }
+    {
+        all_fit(units.as_slice());
+        Machine {
+            processor,
             ints: Ints::new(),
             sr: Word(0),
             stop_dev: false,
             time: 0,
             units,
             places,
-            events: Events::new(alloc)?,
+            events,
             quiet: false,
             taken: 0,
-            attached: Attached::new(alloc)?,
-            console: Line::new(alloc)?,
+            attached,
+            console,
             lines,
-        };
-        machine.reset();
-        Ok(machine)
+        }
     }
 
     /// How many instructions were executed since the session began.
