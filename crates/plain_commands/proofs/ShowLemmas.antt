@@ -1,6 +1,7 @@
 -- SHOW speaks of no file's number.
 use Rattle.std.proofs.Common.{slice_get, ◌≡◌, ◌∙◌, ℕ, Bool, true, false, IsTrue, List, [], ◌∷◌, ◌++◌, codes, decimal, map, option_map, append_assoc, append-nil, Option, Some, None, Result, Err, refl, ap, sym, subst, if◌then◌else◌}
 use Rattle.std.proofs.Math.ListN.{get_or-map}
+use Rattle.std.proofs.lemmas.Option.{slice_get-map}
 use Rattle.file_traits.specs.Streams.{Puts}
 use Rattle.unit_trait.specs.declared.kind.UnitName.{UnitName}
 use Rattle.unit_files.specs.Attachments.{Attachment, Held, file_place, held_at, read_only_of, read_only_at, attachments_of, attachment_at}
@@ -14,6 +15,7 @@ use Rattle.command_session.specs.declared.fault.CommandFault.TheVariants.{NoSuch
 use Rattle.command_session.specs.Live.{standing, Beyond}
 use Rattle.command_session.specs.Reply.{Answer, says, refused}
 use Rattle.host_lines.specs.State.{parties}
+use Rattle.host_lines.specs.Traffic.{Peer}
 use Rattle.telnet_lines.specs.Line.{LineOf}
 use Rattle.telnet_lines.specs.Joined.{seen_line}
 use Rattle.command_session.specs.LineEffects.{is_terminal, terminal_place, terminal_line, port_text, line_text, show_line}
