@@ -326,7 +326,7 @@ got-byte byte line = cond_both (is_full line) got.LineFull got.Done (λ (g : Got
 waits-put : (byte : ℕ) (expects : ExpectTable) (full : Bool) → IsByte byte
     → ((if full then expects else after_printed byte expects) ≡ expects) ⊎ ((b : ℕ) × IsByte b × ((if full then expects else after_printed byte expects) ≡ after_printed b expects))
 waits-put byte expects true low = inl refl
-waits-put byte expects false low = inr (byte, (low, refl))
+waits-put byte expects false low = inr (byte, low, refl)
 
 console-found : (lines : List (LineOf Peer)) → AllByRecursion ValidLine lines → IfSome (console_in lines) ValidLine
 console-found [] all = tt

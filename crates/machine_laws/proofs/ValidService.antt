@@ -225,7 +225,7 @@ valid-lined u l s there is =
 -- the texts that are waited for stay in their ranges
 waits-valid : (w : WatchState) (l : Lined) → (l.expects ≡ w.expects) ⊎ ((byte : ℕ) × IsByte byte × (l.expects ≡ after_printed byte w.expects)) → ValidWatch w → ValidWatch (record w { expects = l.expects })
 waits-valid w l (inl same) is = subst (λ (t : ExpectTable). ValidWatch (record w { expects = t })) (sym same) is
-waits-valid w l (inr (byte, (low, same))) is = subst (λ (t : ExpectTable). ValidWatch (record w { expects = t })) (sym same) (watch-printed byte w low is)
+waits-valid w l (inr (byte, low, same)) is = subst (λ (t : ExpectTable). ValidWatch (record w { expects = t })) (sym same) (watch-printed byte w low is)
 
 behind-valid : (u : UnitName) (l : Lined) (s : Seen) → ValidLined (want_at u s.machine) s.watch.expects l → Valid s → Valid (behind_line u l s)
 behind-valid u l s lined is = record {

@@ -64,7 +64,7 @@ put-ported : (w : Want) (ported : Bool) (due : Option ℕ) (byte : ℕ) → IsDo
 put-ported (want.Console b) ported due byte is = is.0
 put-ported (want.LineKey n) ported due byte is = absurd is
 put-ported (want.LinePut n b) ported due byte is = absurd is
-put-ported want.Key ported due byte is = absurd is.1.1
+put-ported want.Key ported due byte is = absurd is.2
 put-ported w ported due byte is = absurd is
 
 put-matches : (place : Option ℕ) (byte : ℕ) (t : ExpectTable) (other stop : Option Stop) → match_at byte t ≡ place → IsNoMatch other → stop ≡ first_stop (option_map Expect place) other → Matches stop (byte ∷ []) t
@@ -110,7 +110,7 @@ none-left time (send ∷ others) none = by (nat_le send.0 time) none
     by false is = refl
 
 wru-due : (w : Want) (ported : Bool) (due : Option ℕ) → IsDoneOn w ported due Wru → (ported ≡ true) × (due ≡ None)
-wru-due want.Key ported due is = (is.0, is.1.0)
+wru-due want.Key ported due is = (is.0, is.1)
 wru-due (want.Console b) ported due is = absurd is.1
 wru-due (want.LineKey n) ported due is = absurd is
 wru-due (want.LinePut n b) ported due is = absurd is

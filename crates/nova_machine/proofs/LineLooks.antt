@@ -212,11 +212,11 @@ both-served period watch keys before after m h last got looking keyless done is 
     let next = seen (beside watch keys files after) whole last in
     let b = output console before.sent in
     let a = output console after.sent in
-    let looks : LooksEach Peer period (taken s).machine.units (taken s).lines keyboard = record { unheard = console-closed before m.lines keyless.1.1; number = refl; wish = looking.again.first } in
+    let looks : LooksEach Peer period (taken s).machine.units (taken s).lines keyboard = record { unheard = console-closed before m.lines keyless.2; number = refl; wish = looking.again.first } in
     let one : serving note s ≡ then_part (service (at_unit second_keyboard note) second_keyboard mid) (λ n. services note [] n) =
     serving-is note s ∙ ap (λ (us : List UnitName). services note us s) looking.dues
     ∙ services-some note keyboard (second_keyboard ∷ []) s
-    ∙ ap (λ (p : Part). then_part p (λ n. services note (second_keyboard ∷ []) n)) (each-look (at_unit keyboard note) period (taken s) keyboard looks (no-key _ _ keyless.0 keyless.1.0))
+    ∙ ap (λ (p : Part). then_part p (λ n. services note (second_keyboard ∷ []) n)) (each-look (at_unit keyboard note) period (taken s) keyboard looks (no-key _ _ keyless.0 keyless.1))
     ∙ services-some note second_keyboard [] (with_machine (taken s) (asked_for keyboard period (taken s).machine)) in
     let there = wish-there Tti1 m.units period looking.again.second in
     let asks : at ≡ asked second_keyboard at = sym (asked-same Tti1 tt at) in

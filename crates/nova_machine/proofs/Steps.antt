@@ -200,12 +200,12 @@ keyless-made keys watch m keyless =
     let a = attachment_at (attached_in m) keyboard in
     record {
       answer =
-          let key : first_key (due_send m.time watch.sends) (due_key keys m.taken m.time) ≡ None = ap (λ (o : Option ℕ). first_key o (due_key keys m.taken m.time)) keyless.0 ∙ keyless.1.0 in
+          let key : first_key (due_send m.time watch.sends) (due_key keys m.taken m.time) ≡ None = ap (λ (o : Option ℕ). first_key o (due_key keys m.taken m.time)) keyless.0 ∙ keyless.1 in
           (ap (λ (o : Option ℕ). answer_to None a [] o want.Key) key, ap key_stop key);
       memory = m.processor.memory;
       done_is =
           sym (ap (λ (o : Option ℕ). worked m.processor.memory (typed_key o (due_key keys m.taken m.time)) a want.Key m) keyless.0
-          ∙ ap (λ (o : Option ℕ). worked m.processor.memory o a want.Key m) keyless.1.0);
+          ∙ ap (λ (o : Option ℕ). worked m.processor.memory o a want.Key m) keyless.1);
       watched = sym (ap (λ (l : List Send). record watch { sends = l }) (none-sent m.time watch.sends keyless.0));
     }
 
@@ -216,7 +216,7 @@ keyboard-looks keys watch period m keyless again =
     inl (record {
       off =
           subst (λ (w : Want). IsOffLine w (is_ported m.lines) (first_key (due_send m.time watch.sends) (due_key keys m.taken m.time))) (sym (wants-key Tti tt m.units there))
-          (closed-off m.lines (first_key (due_send m.time watch.sends) (due_key keys m.taken m.time)) keyless.1.1);
+          (closed-off m.lines (first_key (due_send m.time watch.sends) (due_key keys m.taken m.time)) keyless.2);
       done = m;
       made = Gets NoKey;
       work = made-of keys keyboard want.Key watch watch m m m (Gets NoKey) (sym (asked-same Tti tt m)) (sym (wants-key Tti tt m.units there)) (keyless-made keys watch m keyless);

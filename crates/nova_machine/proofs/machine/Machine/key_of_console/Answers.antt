@@ -101,4 +101,4 @@ returns-clause-wants g c =
     let due = due_of c.args.watch.now c.args.keys.now c.args.self.now in
     let on : is_ported c.args.self.now.lines ≡ true = search rules in
     let no : is_some due ≡ false = search rules in
-    (on, (none-of due no, c.of_console.ensures.made))
+    (on, none-of due no, c.of_console.ensures.made)
