@@ -196,7 +196,7 @@ impl<U: Unit> Machine<U> {
     pub(crate) fn is_closed(&self) -> bool
         ensures { result ≡ true → slice_get self.now.lines (place_of 0) ≡ Some (unconnected None) }
     {
-        match self.lines.first() {
+        match self.line_at(0) {
             None => false,
             Some(line) => line.is_closed(),
         }

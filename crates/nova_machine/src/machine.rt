@@ -141,8 +141,9 @@ impl<U: Unit> Machine<U> {
     ghost use Rattle.nova_machine.specs.Registers.{register_of, with_register};
 
     /// A machine of 32768 words with those units, at time 0, as a reset leaves it. Memory is 0, and so is every
-    /// register of the processor but `Size`. No key is taken, no file attached, and no line has a port: the console line
-    /// is there, line 0 where a unit of the second teletype is, and line 0 with lines 1 to 64 where the multiplexer is.
+    /// register of the processor but `Size`. No key is taken, no file attached, and no line has a port: the console
+    /// line is there, line 0 where a unit of the second teletype is, and line 0 with lines 1 to 64 where the
+    /// multiplexer is.
     #[tactic(auto, unfolding(crate::specs::Machine::new_machine))]
     pub fn new(alloc: Global, units: Vec<U>) -> Result<Machine<U>, AllocError>
         requires { IsBusOrder (map U.unit_state units.items) }
@@ -156,8 +157,9 @@ impl<U: Unit> Machine<U> {
         let processor = Processor::new(alloc)?;
         let events = Events::new(alloc)?;
         let attached = Attached::new(alloc)?;
-        let mut machine =
-            Machine::assembled(processor, units, places, events, attached, console, lines);
+        let mut machine = Machine::assembled(
+            processor, units, places, events, attached, console, lines,
+        );
         machine.reset();
         Ok(machine)
     }
@@ -176,18 +178,18 @@ impl<U: Unit> Machine<U> {
         requires events { events ≡ [] }
         requires lines { HasItsLines (kinds_of (map U.unit_state units.items)) lines.items }
         ensures { result ≡ record {
-            processor = processor;
-            ints = no_interrupts;
-            sr = 0;
-            stop_dev = false;
-            units = map U.unit_state units.items;
-            events = events;
-            time = 0;
-            taken = 0;
-            slots = attached.slots;
-            disk = attached.disk;
-            aside = attached.aside;
-            lines = console ∷ lines.items;
+          processor = processor;
+          ints = no_interrupts;
+          sr = 0;
+          stop_dev = false;
+          units = map U.unit_state units.items;
+          events = events;
+          time = 0;
+          taken = 0;
+          slots = attached.slots;
+          disk = attached.disk;
+          aside = attached.aside;
+          lines = console ∷ lines.items;
         } }
     {
         all_fit(units.as_slice());
@@ -320,8 +322,8 @@ fn lines_of<U: Unit>(alloc: Global, places: &Places, units: &[U]) -> Result<Vec<
     new_lines(alloc, line_count(places, units))
 }
 
-/// How many terminal lines a machine with those units has: line 0 for the second teletype, and behind it lines 1 to 64 for the
-/// multiplexer.
+/// How many terminal lines a machine with those units has: line 0 for the second teletype, and behind it lines 1 to 64
+/// for the multiplexer.
 fn line_count<U: Unit>(places: &Places, units: &[U]) -> usize
     requires { places.now ≡ places_in (kinds_of (map U.unit_state units.now)) }
     ensures { result ≡ line_count (map U.unit_state units.now) }
