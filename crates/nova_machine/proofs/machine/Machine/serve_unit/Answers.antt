@@ -49,15 +49,15 @@ returns-in-Gets-clause-told g c = λ told lt whole first.
     let b = output (g.S.Sink.written c.args.out.now) old.sent in
     let a = output (g.S.Sink.written c.host.new.out) old.sent in
     let now : AreTold g.F.Files.tells n.slots = told-same g.F.Files.tells _ _ (search rules) told in
-    let last = c.answer-in-Gets.new.self in
+    let last = c.answer.new.self in
     let made : Hosts c.args.unit c.args.watch.now c.host.new.watch keys files files' n c.host.new.self c.ask-want.result (Gets c.in-Gets.got) =
     record { machine = c.in-Gets.ensures.machine now; said = c.in-Gets.ensures.said now; watched = c.in-Gets.ensures.watch; changed = c.in-Gets.ensures.files now } in
-    let P : g.row.L.Denot → Type 0 = λ l. Comes (service (failure_of_stop (c.answer-in-Gets.result)) c.args.unit s) (c.answer-in-Gets.result) (seen (beside c.host.new.watch keys files' (state l)) whole last) g.S.Sink.tells b
+    let P : g.row.L.Denot → Type 0 = λ l. Comes (service (failure_of_stop (c.answer.result)) c.args.unit s) (c.answer.result) (seen (beside c.host.new.watch keys files' (state l)) whole last) g.S.Sink.tells b
     (output (g.S.Sink.written c.host.new.out) (state l).sent) in
     subst P (sym still.1)
-    (comes-own (failure_of_stop (c.answer-in-Gets.result)) c.args.unit s (c.answer-in-Gets.result) (seen (beside c.host.new.watch keys files' old) whole last) g.S.Sink.tells b a quiet
-    (comes-gets c.args.unit c.args.watch.now c.host.new.watch keys files files' old whole m n c.host.new.self last c.ask-want.result c.in-Gets.got c.answer-in-Gets.result g.S.Sink.tells b a asks c.ask-want.ensures.want made
-    c.in-Gets.ensures.printed refl c.answer-in-Gets.ensures.other c.answer-in-Gets.ensures.stop c.answer-in-Gets.ensures.machine))
+    (comes-own (failure_of_stop (c.answer.result)) c.args.unit s (c.answer.result) (seen (beside c.host.new.watch keys files' old) whole last) g.S.Sink.tells b a quiet
+    (comes-gets c.args.unit c.args.watch.now c.host.new.watch keys files files' old whole m n c.host.new.self last c.ask-want.result c.in-Gets.got c.answer.result g.S.Sink.tells b a asks c.ask-want.ensures.want made
+    c.in-Gets.ensures.printed refl c.answer.ensures.other c.answer.ensures.stop c.answer.ensures.machine))
 
 pub returns-in-Wru-clause-told : goal.returns-in-Wru-clause-told
 returns-in-Wru-clause-told g c = λ told lt whole first.
@@ -171,8 +171,8 @@ returns-in-Some-clause-told g c = λ told lt whole first.
     (answer.stop ∙ ap (λ (t : Turned). first_stop (stop_on made watch.expects) t.stop) got ∙ ap (λ (o : Option Stop). first_stop o (answered c.args.unit done.done.got h).stop) done.stop_is)
     (answer.machine ∙ ap (λ (t : Turned). t.machine) got)
 
-pub answer-requires-in-Gets-clause-room : goal.answer-requires-in-Gets-clause-room
-answer-requires-in-Gets-clause-room g c =
+pub answer-requires-clause-room : goal.answer-requires-clause-room
+answer-requires-clause-room g c =
     let still = c.in-None.ensures.none refl in
     subst (λ (us : List UnitState). TakesAnswerIn c.args.unit.kind c.in-Gets.got us) (sym (c.in-Gets.ensures.units ∙ ap (λ (x : MachineState). x.units) still.0))
     (c.ask-want.ensures.room c.in-Gets.got c.in-Gets.ensures.room)
@@ -222,34 +222,34 @@ returns-in-Gets-clause-watches g c =
     let e = c.in-Gets.ensures in
     let w = c.ask-want.result in
     let made = Gets c.in-Gets.got in
-    let hosts : Facts c.args.keys.now c.args.unit w made c.args.watch.now c.host.new.watch c.args.self.now c.on_line.new.self c.host.new.self c.answer-in-Gets.new.self = record {
+    let hosts : Facts c.args.keys.now c.args.unit w made c.args.watch.now c.host.new.watch c.args.self.now c.on_line.new.self c.host.new.self c.answer.new.self = record {
       asked_is = (c.in-None.ensures.none refl).0 ∙ c.ask-want.ensures.machine;
       time = ap (λ (m : MachineState). m.time) (c.in-None.ensures.none refl).0 ∙ c.ask-want.ensures.time;
-      after = c.answer-in-Gets.ensures.time ∙ e.time;
+      after = c.answer.ensures.time ∙ e.time;
       taken = e.taken;
-      kept = ap (λ (m : MachineState). m.taken) c.answer-in-Gets.ensures.machine ∙ answered-taken c.args.unit c.in-Gets.got c.host.new.self;
+      kept = ap (λ (m : MachineState). m.taken) c.answer.ensures.machine ∙ answered-taken c.args.unit c.in-Gets.got c.host.new.self;
       watched = e.watch;
       made_is = e.made;
     } in
-    hosts-watches c.args.keys.now c.args.unit w made c.args.watch.now c.host.new.watch c.args.self.now c.on_line.new.self c.host.new.self c.answer-in-Gets.new.self c.answer-in-Gets.result g.S.Sink.tells
-    (g.S.Sink.written c.args.out.now) (g.S.Sink.written c.host.new.out) hosts (answered-no-match c.args.unit c.in-Gets.got c.host.new.self c.answer-in-Gets.result c.answer-in-Gets.ensures.stop) e.printed
-    (c.answer-in-Gets.ensures.lines ∙ e.lines) (off-still c.args.keys.now c.args.watch.now w c.ask-want.new.self c.on_line.new.self (c.in-None.ensures.none refl).0 (c.in-None.ensures.off refl))
+    hosts-watches c.args.keys.now c.args.unit w made c.args.watch.now c.host.new.watch c.args.self.now c.on_line.new.self c.host.new.self c.answer.new.self c.answer.result g.S.Sink.tells
+    (g.S.Sink.written c.args.out.now) (g.S.Sink.written c.host.new.out) hosts (answered-no-match c.args.unit c.in-Gets.got c.host.new.self c.answer.result c.answer.ensures.stop) e.printed
+    (c.answer.ensures.lines ∙ e.lines) (off-still c.args.keys.now c.args.watch.now w c.ask-want.new.self c.on_line.new.self (c.in-None.ensures.none refl).0 (c.in-None.ensures.off refl))
 
 pub returns-in-Gets-clause-cause : goal.returns-in-Gets-clause-cause
 returns-in-Gets-clause-cause g c =
     let e = c.in-Gets.ensures in
     let w = c.ask-want.result in
-    let hosts : Facts c.args.keys.now c.args.unit w (Gets c.in-Gets.got) c.args.watch.now c.host.new.watch c.args.self.now c.on_line.new.self c.host.new.self c.answer-in-Gets.new.self = record {
+    let hosts : Facts c.args.keys.now c.args.unit w (Gets c.in-Gets.got) c.args.watch.now c.host.new.watch c.args.self.now c.on_line.new.self c.host.new.self c.answer.new.self = record {
       asked_is = (c.in-None.ensures.none refl).0 ∙ c.ask-want.ensures.machine;
       time = ap (λ (m : MachineState). m.time) (c.in-None.ensures.none refl).0 ∙ c.ask-want.ensures.time;
-      after = c.answer-in-Gets.ensures.time ∙ e.time;
+      after = c.answer.ensures.time ∙ e.time;
       taken = e.taken;
-      kept = ap (λ (m : MachineState). m.taken) c.answer-in-Gets.ensures.machine ∙ answered-taken c.args.unit c.in-Gets.got c.host.new.self;
+      kept = ap (λ (m : MachineState). m.taken) c.answer.ensures.machine ∙ answered-taken c.args.unit c.in-Gets.got c.host.new.self;
       watched = e.watch;
       made_is = e.made;
     } in
-    hosts-gets c.args.keys.now c.args.unit w c.in-Gets.got c.args.watch.now c.host.new.watch c.args.self.now c.on_line.new.self c.host.new.self c.answer-in-Gets.new.self c.answer-in-Gets.result hosts
-    (c.answer-in-Gets.ensures.slots ∙ e.slots) c.ask-want.ensures.want e.units c.ask-want.ensures.hosted e.room_left c.answer-in-Gets.ensures.stop c.answer-in-Gets.ensures.machine
+    hosts-gets c.args.keys.now c.args.unit w c.in-Gets.got c.args.watch.now c.host.new.watch c.args.self.now c.on_line.new.self c.host.new.self c.answer.new.self c.answer.result hosts
+    (c.answer.ensures.slots ∙ e.slots) c.ask-want.ensures.want e.units c.ask-want.ensures.hosted e.room_left c.answer.ensures.stop c.answer.ensures.machine
 
 pub returns-in-Wru-clause-watches : goal.returns-in-Wru-clause-watches
 returns-in-Wru-clause-watches g c =
@@ -351,7 +351,7 @@ returns-in-Gets-clause-steps g c =
       done = c.host.new.self;
       made = made;
       work = made-of c.args.keys.now c.args.unit w c.args.watch.now c.host.new.watch c.args.self.now c.on_line.new.self c.host.new.self made asks c.ask-want.ensures.want work;
-      left = turned-is (answered c.args.unit c.in-Gets.got c.host.new.self) c.answer-in-Gets.new.self c.answer-in-Gets.result c.answer-in-Gets.ensures.machine c.answer-in-Gets.ensures.stop;
+      left = turned-is (answered c.args.unit c.in-Gets.got c.host.new.self) c.answer.new.self c.answer.result c.answer.ensures.machine c.answer.ensures.stop;
     })
 
 pub returns-in-Wru-clause-steps : goal.returns-in-Wru-clause-steps
@@ -412,7 +412,7 @@ returns-in-Some-clause-covers g c =
 pub returns-in-Gets-clause-covers : goal.returns-in-Gets-clause-covers
 returns-in-Gets-clause-covers g c =
     served-covers c.args.unit c.args.self.now c.ask-want.new.self c.on_line.new.self c.ask-want.ensures.machine (ap attached_files c.on_line.ensures.machine)
-    c.in-Gets.got c.host.new.self c.answer-in-Gets.new.self c.in-Gets.ensures.covers c.answer-in-Gets.ensures.machine
+    c.in-Gets.got c.host.new.self c.answer.new.self c.in-Gets.ensures.covers c.answer.ensures.machine
 
 pub returns-in-Wru-clause-covers : goal.returns-in-Wru-clause-covers
 returns-in-Wru-clause-covers g c =
