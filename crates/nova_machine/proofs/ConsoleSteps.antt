@@ -1,13 +1,12 @@
 -- What is done on the console line.
-use Rattle.std.proofs.Common.{◌≡◌, ◌≢◌, ◌∙◌, ap, sym, refl, subst, ℕ, zero, suc, Bool, true, false, IsTrue, List, [], ◌∷◌, map, slice_get, slice_set, Option, Some, None, is_some, ◌||◌, option_map, inl, inr, nat_le, if◌then◌else◌}
+use Rattle.std.proofs.Common.{◌≡◌, ◌∙◌, ap, sym, refl, subst, ℕ, suc, Bool, true, false, IsTrue, List, [], ◌∷◌, map, slice_get, slice_set, Option, Some, None, is_some, ◌||◌, option_map, inl, inr, nat_le, if◌then◌else◌}
 use Rattle.std.proofs.lemmas.Option.{same_Some}
 use Rattle.host_lines.specs.Traffic.{Peer, Answer, Ahead}
 use Rattle.host_lines.specs.Told.{IsFirst, record_in, ahead_of}
 use Rattle.host_lines.specs.State.{LineState}
-use Rattle.telnet_lines.specs.Line.{LineOf, IsSettled, unconnected, is_full}
-use Rattle.telnet_lines.specs.Poll.{Polled, polled}
-use Rattle.telnet_lines.specs.Joined.{seen_line, Polls, KeepsParties}
-use Rattle.telnet_lines.specs.Many.{AreApart}
+use Rattle.telnet_lines.specs.Line.{LineOf, unconnected, is_full}
+use Rattle.telnet_lines.specs.Poll.{polled}
+use Rattle.telnet_lines.specs.Joined.{seen_line, Polls}
 use Rattle.telnet_lines.proofs.Several.{stand_apart}
 use Rattle.telnet_lines.proofs.Sending.{nothing_heard}
 use Rattle.expect_actions.specs.Expects.{ExpectTable, match_at, after_printed}
@@ -15,14 +14,13 @@ use Rattle.expect_actions.specs.Sends.{Send, due_send}
 use Rattle.unit_trait.specs.declared.calls.Want.{Want}
 use Rattle.unit_trait.specs.declared.calls.Want.TheVariants as want
 use Rattle.unit_trait.specs.declared.calls.Got.{Got}
-use Rattle.nova_machine.specs.declared.machine.Stop.{Stop}
 use Rattle.nova_machine.specs.declared.machine.Stop.TheVariants.{Expect}
 use Rattle.nova_machine.specs.declared.on_line.OnLine.{OnLine}
 use Rattle.nova_machine.specs.declared.on_line.OnLine.TheVariants.{Gets}
 use Rattle.nova_machine.specs.Wants.{first_key, got_of_key, key_stop}
-use Rattle.nova_machine.specs.OnLines.{Lined, Around, around_at, lined, lined_by, put_by, put_line, put_got, with_port, console_in, is_ported, console_polled, console_key, console_put}
+use Rattle.nova_machine.specs.OnLines.{Lined, Around, around_at, lined, lined_by, put_by, put_line, put_got, with_port, console_in, is_ported, console_polled, console_put}
 use Rattle.nova_machine.specs.OnLine.{got_on, stop_on, expects_on, IsOffLine}
-use Rattle.nova_machine.specs.LineChanges.{ports_of, HaveNoPort, AreLinesTold, DoneOnLine, DoneAs}
+use Rattle.nova_machine.specs.LineChanges.{ports_of, AreLinesTold, DoneOnLine, DoneAs}
 use Rattle.nova_machine.proofs.LineSteps.{StepsAt, IsOnLine, done-plain, seen-put, put-seen-parts}
 
 -- ---- whether it has a port

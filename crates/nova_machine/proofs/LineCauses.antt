@@ -1,18 +1,17 @@
 -- What is left of the watch tables where something was done on a line, and the cause of a stop behind that.
-use Rattle.std.proofs.Common.{◌≡◌, ◌∙◌, ap, sym, refl, subst, arith, ℕ, Bool, true, false, List, [], ◌∷◌, ◌++◌, append-nil, nat_le, Option, Some, None, option_map, inl, inr, if◌then◌else◌}
-use Rattle.telnet_lines.specs.Line.{LineOf}
+use Rattle.std.proofs.Common.{◌≡◌, ◌∙◌, ap, sym, refl, subst, arith, ℕ, Bool, true, false, List, [], ◌∷◌, ◌++◌, append-nil, nat_le, Option, Some, None, option_map, inr, if◌then◌else◌}
 use Rattle.unit_trait.specs.declared.kind.UnitName.{UnitName}
 use Rattle.unit_trait.specs.declared.calls.Want.{Want}
 use Rattle.unit_trait.specs.declared.calls.Want.TheVariants as want
 use Rattle.unit_trait.specs.declared.calls.Got.{Got}
 use Rattle.unit_trait.specs.declared.calls.Got.TheVariants as got
 use Rattle.expect_actions.specs.Breaks.{BreakTable}
-use Rattle.expect_actions.specs.Expects.{ExpectTable, match_at, after_printed}
+use Rattle.expect_actions.specs.Expects.{ExpectTable, match_at}
 use Rattle.expect_actions.specs.KeysFile.{due_key}
 use Rattle.expect_actions.specs.Sends.{Send, due_send, sends_left}
 use Rattle.expect_actions.specs.Watch.{WatchState}
 use Rattle.nova_machine.specs.declared.machine.Stop.{Stop}
-use Rattle.nova_machine.specs.declared.machine.Stop.TheVariants.{Expect, Wru as WruStop}
+use Rattle.nova_machine.specs.declared.machine.Stop.TheVariants.{Expect}
 use Rattle.nova_machine.specs.declared.on_line.OnLine.{OnLine}
 use Rattle.nova_machine.specs.declared.on_line.OnLine.TheVariants.{Gets, Wru, Put}
 use Rattle.nova_machine.specs.Machine.{MachineState}
@@ -21,7 +20,7 @@ use Rattle.nova_machine.specs.Service.{asked, answered, first_stop}
 use Rattle.nova_machine.specs.OnLines.{IsOfLine, is_ported}
 use Rattle.nova_machine.specs.OnLine.{got_on, stop_on, expects_on, IsDoneOn}
 use Rattle.nova_machine.specs.LineChanges.{ports_of}
-use Rattle.nova_machine.specs.StopCauses.{moment_of, console_bytes, AreCountedDown, LastMatches, Matches, Watches, TookWru, ServiceCause}
+use Rattle.nova_machine.specs.StopCauses.{moment_of, console_bytes, AreCountedDown, Matches, Watches, TookWru, ServiceCause}
 use Rattle.nova_machine.proofs.Causes.{counted-same, IsNoMatch, matches-none, watches-still}
 use Rattle.nova_machine.proofs.ServiceCauses.{line-cause, asked-taken, asked-ported, answered-taken, answered-no-match}
 use Rattle.nova_machine.proofs.ConsoleSteps.{ported-same}

@@ -1,14 +1,13 @@
 -- Looks of both keyboards at one time, with a poll of a line, ahead of the turn that they belong to.
-use Rattle.std.proofs.Common.{◌≡◌, ◌≢◌, ◌∙◌, refl, ap, sym, subst, arith, ℕ, zero, suc, ◌+◌, ◌-◌, ◌<◌, Bool, false, List, [], ◌∷◌, ◌++◌, append_assoc, append-nil, map, Option, Some, None, option_map, slice_get, IfSome, is_some, ◌==◌, true, if◌then◌else◌}
+use Rattle.std.proofs.Common.{◌≡◌, ◌≢◌, ◌∙◌, refl, ap, sym, subst, arith, ℕ, zero, suc, ◌+◌, ◌-◌, ◌<◌, Bool, false, List, [], ◌∷◌, ◌++◌, append_assoc, append-nil, Option, Some, None, option_map, slice_get, IfSome, is_some, ◌==◌, true, if◌then◌else◌}
 use Rattle.std.proofs.lemmas.Option.{same_Some}
 use Rattle.std.proofs.lemmas.Bool.Decides.{nat_tests}
 use Rattle.observations.specs.Observations.{Observation}
 use Rattle.file_traits.specs.Lists.{NamedBytes}
 use Rattle.host_lines.specs.Traffic.{Peer, Answer}
-use Rattle.host_lines.specs.Told.{IsFirst, record_in, ahead_of}
+use Rattle.host_lines.specs.Told.{IsFirst, record_in}
 use Rattle.host_lines.specs.State.{LineState}
 use Rattle.telnet_lines.specs.Line.{LineOf}
-use Rattle.telnet_lines.specs.Joined.{seen_line}
 use Rattle.unit_trait.specs.declared.kind.UnitName.{UnitName}
 use Rattle.unit_trait.specs.declared.kind.Kind.TheVariants.{Tti1}
 use Rattle.unit_trait.specs.declared.calls.Queue.{Queue}

@@ -1,6 +1,4 @@
-use Rattle.std.proofs.Common.{◌≡◌, ◌∙◌, ap, sym, refl, subst, rules, ℕ, true, false, List, ◌∷◌, map, Option, Some, None, is_some}
-use Rattle.expect_actions.specs.KeysFile.{due_key}
-use Rattle.expect_actions.specs.Sends.{due_send}
+use Rattle.std.proofs.Common.{◌≡◌, ◌∙◌, ap, sym, refl, subst, rules, ℕ, true, false, List, ◌∷◌, map, Option, Some, is_some}
 use Rattle.host_lines.specs.Told.{ahead_of}
 use Rattle.telnet_lines.specs.Line.{LineOf}
 use Rattle.telnet_lines.specs.Joined.{seen_line}
