@@ -234,7 +234,7 @@ seen-lined u l s = record {
 copies-line : (u : UnitName) (l : Lined) (s : Seen) → Copies s (line_service u l (taken s))
 unfolding line_service
 copies-line u l s =
-    let p = copies-replied u None (Ok l.got) s (behind_line u l (taken s)) (seen-lined u l s) in
+    let p = copies-replied u l.stop (Ok l.got) s (behind_line u l (taken s)) (seen-lined u l s) in
     record { slots = p.slots; written = p.written; none = p.none; alone = p.alone }
 
 copies-service : (fault : Option Failure) (u : UnitName) (s : Seen) → Copies s (service fault u (taken s))

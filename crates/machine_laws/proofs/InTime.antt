@@ -78,8 +78,8 @@ at-own fault u s =
 at-line : (u : UnitName) (l : Lined) (s : Seen) → AtTime s (line_service u l (taken s))
 unfolding line_service asked
 at-line u l s =
-    at-behind s (sends l.sent) (replied u None (Ok l.got) (behind_line u l (taken s))) (λ t h. absurd (sends-nowhere l.sent t h))
-    (at-replied s u None (Ok l.got) (behind_line u l (taken s)) refl)
+    at-behind s (sends l.sent) (replied u l.stop (Ok l.got) (behind_line u l (taken s))) (λ t h. absurd (sends-nowhere l.sent t h))
+    (at-replied s u l.stop (Ok l.got) (behind_line u l (taken s)) refl)
 
 at-service : (fault : Option Failure) (u : UnitName) (s : Seen) → AtTime s (service fault u (taken s))
 at-service fault u s = each-service (AtTime s) fault u (taken s) (at-own fault u s) (λ l is. at-line u l s)

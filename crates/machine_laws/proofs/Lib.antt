@@ -3,6 +3,7 @@ pub mod SameRunLemmas
 pub mod Whiles
 pub mod WordsBack
 pub mod Ports
+pub mod LineStops
 pub mod Shapes
 pub mod ValidBytes
 pub mod ValidMemory

@@ -1,10 +1,10 @@
 -- A turn and a run keep of which kinds the units are, what is attached, how many lines there are, and which port each has.
-use Rattle.std.proofs.Common.{◌≡◌, inl, inr, ap, ℕ, zero, suc, Bool, List, [], ◌∷◌, length, slice_get, slice_set, Option, Some, None, option_map, Result, Ok, Err, refl, sym, subst, ◌∙◌}
+use Rattle.std.proofs.Common.{◌≡◌, inl, inr, ap, ℕ, zero, suc, Bool, true, false, is_some, if◌then◌else◌, List, [], ◌∷◌, length, slice_get, slice_set, Option, Some, None, option_map, Result, Ok, Err, refl, sym, subst, ◌∙◌}
 use Rattle.std.proofs.lemmas.List.{length-set}
 use Rattle.std.proofs.lemmas.Option.{same_Some}
 use Rattle.observations.specs.Observations.{Observation, StandsAt}
 use Rattle.observations.proofs.MadeLemmas.{stands-either}
-use Rattle.host_lines.specs.Traffic.{Peer, Ahead}
+use Rattle.host_lines.specs.Traffic.{Peer}
 use Rattle.telnet_lines.specs.Line.{LineOf}
 use Rattle.telnet_lines.specs.Poll.{polled}
 use Rattle.unit_trait.specs.declared.kind.UnitName.{UnitName}
@@ -22,9 +22,9 @@ use Rattle.nova_machine.specs.Seen.{Seen, with_machine}
 use Rattle.nova_machine.specs.Parts.{Part, silent, behind_made, followed}
 use Rattle.nova_machine.specs.Turned.{Turned, still}
 use Rattle.nova_machine.specs.LineChanges.{ports_of}
-use Rattle.nova_machine.specs.OnLines.{Lined, lined_by, put_line, put_got, lined, sends}
+use Rattle.nova_machine.specs.OnLines.{Lined, Around, lined_by, put_by, put_line, console_in, console_polled, console_key, console_put, lined, sends}
 use Rattle.nova_machine.specs.Wants.{prints}
-use Rattle.nova_machine.specs.Service.{asked, answered, hosted, replied, own_service, behind_line, line_service, service, taken, lined_at, want_at}
+use Rattle.nova_machine.specs.Service.{asked, answered, hosted, replied, own_service, behind_line, line_service, around, service, taken, lined_at, want_at}
 use Rattle.nova_machine.specs.Turn.{breaks_tested, turn}
 use Rattle.nova_machine.specs.Run.{run}
 use Rattle.machine_laws.specs.ValidLaws.{StaysAs, KeepsShape}
@@ -79,26 +79,51 @@ record SameLines (before after : List (LineOf Peer)) : Type 0 where
 set-same : (i : ℕ) (lines : List (LineOf Peer)) (line after : LineOf Peer) → slice_get lines i ≡ Some line → after.port ≡ line.port → SameLines lines (slice_set lines i after)
 set-same i lines line after at same = record { count = length-set lines i after; ports = ports-set i lines line after at same }
 
-lined-same : (time : ℕ) (w : Want) (lines : List (LineOf Peer)) (ahead : Ahead) (l : Lined) → lined time w lines ahead ≡ Some l → SameLines lines l.lines
+console-at : (lines : List (LineOf Peer)) (line : LineOf Peer) → console_in lines ≡ Some line → slice_get lines 0 ≡ Some line
+console-at [] line there = absurd (cc)
+console-at (l ∷ lines) line there = by (is_some l.port) there
+  where
+    by : (b : Bool) → (if b then Some l else None) ≡ Some line → Some l ≡ Some line
+    by true is = is
+    by false is = absurd (cc)
+
+lined-same : (w : Want) (a : Around) (l : Lined) → lined w a ≡ Some l → SameLines a.lines l.lines
 unfolding lined
-lined-same time (want.LineKey n) lines ahead l there = by (slice_get lines (suc n)) refl there
+lined-same (want.LineKey n) a l there = by (slice_get a.lines (suc n)) refl there
   where
-    by : (o : Option (LineOf Peer)) → slice_get lines (suc n) ≡ o → option_map (λ line. lined_by (suc n) lines (polled time line ahead)) o ≡ Some l → SameLines lines l.lines
+    by : (o : Option (LineOf Peer)) → slice_get a.lines (suc n) ≡ o → option_map (λ line. lined_by (suc n) a (polled a.time line a.ahead)) o ≡ Some l → SameLines a.lines l.lines
     by None at there = absurd (cc)
     by (Some line) at there =
-        let same : lined_by (suc n) lines (polled time line ahead) ≡ l = cc in
-        subst (λ (x : Lined). SameLines lines x.lines) same (set-same (suc n) lines line (polled time line ahead).line at (polled-port time line ahead))
-lined-same time (want.LinePut n byte) lines ahead l there = by (slice_get lines (suc n)) refl there
+        let q = polled a.time line a.ahead in
+        let same : lined_by (suc n) a q ≡ l = cc in
+        subst (λ (x : Lined). SameLines a.lines x.lines) same (set-same (suc n) a.lines line q.line at (polled-port a.time line a.ahead))
+lined-same (want.LinePut n byte) a l there = by (slice_get a.lines (suc n)) refl there
   where
-    by : (o : Option (LineOf Peer)) → slice_get lines (suc n) ≡ o
-        → option_map (λ line. record { got = put_got line; sent = []; lines = slice_set lines (suc n) (put_line byte line); ahead = ahead }) o ≡ Some l
-        → SameLines lines l.lines
+    by : (o : Option (LineOf Peer)) → slice_get a.lines (suc n) ≡ o → option_map (put_by (suc n) byte a) o ≡ Some l → SameLines a.lines l.lines
     by None at there = absurd (cc)
     by (Some line) at there =
-        let done : Lined = record { got = put_got line; sent = []; lines = slice_set lines (suc n) (put_line byte line); ahead = ahead } in
-        let same : done ≡ l = cc in
-        subst (λ (x : Lined). SameLines lines x.lines) same (set-same (suc n) lines line (put_line byte line) at (put-port byte line))
-lined-same time w lines ahead l there = absurd (cc)
+        let same : put_by (suc n) byte a line ≡ l = cc in
+        subst (λ (x : Lined). SameLines a.lines x.lines) same (set-same (suc n) a.lines line (put_line byte line) at (put-port byte line))
+lined-same want.Key a l there = due a.due there
+  where
+    by : (o : Option (LineOf Peer)) → console_in a.lines ≡ o → option_map (λ line. console_polled a (polled a.time line a.ahead)) o ≡ Some l → SameLines a.lines l.lines
+    by None at there = absurd (cc)
+    by (Some line) at there =
+        let q = polled a.time line a.ahead in
+        let same : console_polled a q ≡ l = cc in
+        subst (λ (x : Lined). SameLines a.lines x.lines) same (set-same 0 a.lines line q.line (console-at a.lines line at) (polled-port a.time line a.ahead))
+
+    due : (key : Option ℕ) → console_key key a ≡ Some l → SameLines a.lines l.lines
+    due None there = by (console_in a.lines) refl there
+    due (Some key) there = absurd (cc)
+lined-same (want.Console byte) a l there = by (console_in a.lines) refl there
+  where
+    by : (o : Option (LineOf Peer)) → console_in a.lines ≡ o → option_map (console_put byte a) o ≡ Some l → SameLines a.lines l.lines
+    by None at there = absurd (cc)
+    by (Some line) at there =
+        let same : console_put byte a line ≡ l = cc in
+        subst (λ (x : Lined). SameLines a.lines x.lines) same (set-same 0 a.lines line (put_line byte line) (console-at a.lines line at) (put-port byte line))
+lined-same w a l there = absurd (cc)
 
 -- the machine was asked, or was answered
 stays-asked : (u : UnitName) (s : Seen) → StaysAs s (with_machine s (asked u s.machine))
@@ -134,15 +159,15 @@ stays-lined u l s there = record {
   slots = refl;
   own = refl;
   aside = refl;
-  count = (lined-same s.machine.time (want_at u s.machine) s.lines s.ahead l there).count;
-  ports = (lined-same s.machine.time (want_at u s.machine) s.lines s.ahead l there).ports;
+  count = (lined-same (want_at u s.machine) (around s) l there).count;
+  ports = (lined-same (want_at u s.machine) (around s) l there).ports;
 }
 
 keeps-line : (u : UnitName) (l : Lined) (s : Seen) → lined_at u s ≡ Some l → KeepsShape s (line_service u l s)
 unfolding line_service
 keeps-line u l s there =
     keeps-behind s (sends l.sent) _ (λ t h. absurd (sends-nowhere l.sent t h))
-    (keeps-from s (behind_line u l s) _ (stays-lined u l s there) (keeps-replied u None (Ok l.got) (behind_line u l s)))
+    (keeps-from s (behind_line u l s) _ (stays-lined u l s there) (keeps-replied u l.stop (Ok l.got) (behind_line u l s)))
 
 keeps-service : (fault : Option Failure) (u : UnitName) (s : Seen) → KeepsShape s (service fault u (taken s))
 keeps-service fault u s =

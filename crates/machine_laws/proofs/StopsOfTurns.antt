@@ -19,7 +19,8 @@ use Rattle.nova_machine.specs.Wants.{stop_by, key_stop, own_stop, wru, answer_to
 use Rattle.expect_actions.specs.Breaks.{stop_at}
 use Rattle.expect_actions.specs.Expects.{ExpectTable, match_at}
 use Rattle.nova_machine.specs.OnLines.{Lined}
-use Rattle.nova_machine.specs.Service.{answered, first_stop, replied, hosted, want_at, key_at, own_service, line_service, service, taken, serving}
+use Rattle.machine_laws.proofs.LineStops.{lined-stops}
+use Rattle.nova_machine.specs.Service.{answered, first_stop, replied, hosted, want_at, key_at, own_service, line_service, lined_at, around, asked, service, taken, serving}
 use Rattle.nova_machine.specs.Turn.{fetch, interrupt, breaks_tested, breaks_tested_unless, attended, prepared, turn}
 use Rattle.nova_machine.specs.StopLaws.{fetched, IsEndless, IsEndlessEntry, IsBroken, IsReached, ready, IsHalted, behind_entry, TurnStops}
 use Rattle.memory_transfer.specs.Tapes.{NoAnswer, FileFails, ImageIsBad}
@@ -79,12 +80,13 @@ unit-own_service fault u s =
     let w = want_at u s.machine in
     unit-replied u (key_at s) s.watch.expects w (answer_to fault (attachment_at (attached_in s.machine) u) s.files (key_at s) w) (hosted fault u s)
 
-unit-line : (u : UnitName) (l : Lined) (s : Seen) → IsUnitStop (line_service u l s).stop
+unit-line : (u : UnitName) (l : Lined) (s : Seen) → lined_at u s ≡ Some l → IsUnitStop (line_service u l s).stop
 unfolding line_service answered
-unit-line u l s = unit-stop_by u _
+unit-line u l s there =
+    lined-stops (λ (o : Option Stop). IsUnitStop (first_stop o (answered u l.got (asked u s.machine)).stop)) (want_at u s.machine) (around s) l (unit-stop_by u _) tt (λ k. tt) there
 
 unit-service : (fault : Option Failure) (u : UnitName) (s : Seen) → IsUnitStop (service fault u s).stop
-unit-service fault u s = each-service (λ p. IsUnitStop p.stop) fault u s (unit-own_service fault u s) (λ l is. unit-line u l s)
+unit-service fault u s = each-service (λ p. IsUnitStop p.stop) fault u s (unit-own_service fault u s) (λ l is. unit-line u l s is)
 
 -- the stop of a part is one of a service
 abbrev StopsForUnits : Seen → Part → Type 0

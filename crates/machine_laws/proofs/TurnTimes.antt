@@ -24,8 +24,9 @@ use Rattle.nova_machine.specs.Turned.{Turned, goes_on, still}
 use Rattle.nova_machine.specs.Wants.{prints, stop_by, key_stop, own_stop, wru, answer_to, memory_behind}
 use Rattle.expect_actions.specs.Breaks.{stop_at}
 use Rattle.expect_actions.specs.Expects.{ExpectTable, match_at}
-use Rattle.nova_machine.specs.OnLines.{Lined, sends}
-use Rattle.nova_machine.specs.Service.{asked, answered, first_stop, replied, hosted, want_at, key_at, own_service, behind_line, line_service, service, taken}
+use Rattle.nova_machine.specs.OnLines.{Lined, Around, lined, sends}
+use Rattle.machine_laws.proofs.LineStops.{lined-stops}
+use Rattle.nova_machine.specs.Service.{around, lined_at, asked, answered, first_stop, replied, hosted, want_at, key_at, own_service, behind_line, line_service, service, taken}
 use Rattle.nova_machine.specs.Turn.{fetch, is_interrupted, jump_to, interrupt_reference, enter, interrupt, breaks_tested, turn}
 use Rattle.nova_machine.specs.Laws.{IsLimit, Unchanged}
 use Rattle.unit_trait.specs.declared.calls.TapeOrder.{TapeOrder}
@@ -96,6 +97,17 @@ replied-prepares u key expects w (Ok g) before s stays = record {
 replied-prepares u key expects w (Err (FileFails f)) before s stays = record { stays = stays; other = λ limit. limit }
 replied-prepares u key expects w (Err (ImageIsBad place)) before s stays = record { stays = stays; other = λ limit. limit }
 
+-- .. to what was done on a line
+line-replied : (u : UnitName) (l : Lined) (a : Around) (w : Want) (before s : Seen) → lined w a ≡ Some l → Stays before.machine s.machine → Prepares before (replied u l.stop (Ok l.got) s)
+unfolding answered
+line-replied u l a w before s there stays = record {
+  stays = record {
+    acts = record { time = stays.acts.time; unchanged = record { size = stays.acts.unchanged.size; sr = stays.acts.unchanged.sr; stop_dev = stays.acts.unchanged.stop_dev; slots = stays.acts.unchanged.slots } };
+    hold = stays.hold;
+  };
+  other = lined-stops (λ (o : Option Stop). ¬ IsLimit (first_stop o (answered u l.got s.machine).stop)) w a l (stop_by-other u _) (λ limit. limit) (λ k limit. limit) there;
+}
+
 prepares-behind : (s : Seen) (made : List (Observation Seen)) (p : Part) → Prepares s p → Prepares s (behind_made made p)
 prepares-behind s made p prepares = record { stays = prepares.stays; other = prepares.other }
 
@@ -145,15 +157,15 @@ own-prepares fault u s =
     prepares-behind s (prints w (with_machine x (asked u x.machine))) _
     (replied-prepares u (key_at x) x.watch.expects w (answer_to fault (attachment_at (attached_in x.machine) u) x.files (key_at x) w) s (hosted fault u x) (record { acts = record { time = refl; unchanged = record { size = size-behind fault _ x.files x.machine.disk w x.machine.processor.memory; sr = refl; stop_dev = refl; slots = refl } }; hold = refl }))
 
-line-prepares : (u : UnitName) (l : Lined) (s : Seen) → Prepares s (line_service u l (taken s))
+line-prepares : (u : UnitName) (l : Lined) (s : Seen) → lined_at u (taken s) ≡ Some l → Prepares s (line_service u l (taken s))
 unfolding line_service asked
-line-prepares u l s =
+line-prepares u l s there =
     let x = taken s in
     prepares-behind s (sends l.sent) _
-    (replied-prepares u None x.watch.expects want.Nothing (Ok l.got) s (behind_line u l x) (record { acts = record { time = refl; unchanged = record { size = refl; sr = refl; stop_dev = refl; slots = refl } }; hold = refl }))
+    (line-replied u l (around x) (want_at u x.machine) s (behind_line u l x) there (record { acts = record { time = refl; unchanged = record { size = refl; sr = refl; stop_dev = refl; slots = refl } }; hold = refl }))
 
 service-prepares : (fault : Option Failure) (u : UnitName) (s : Seen) → Prepares s (service fault u (taken s))
-service-prepares fault u s = each-service (Prepares s) fault u (taken s) (own-prepares fault u s) (λ l is. line-prepares u l s)
+service-prepares fault u s = each-service (Prepares s) fault u (taken s) (own-prepares fault u s) (λ l is. line-prepares u l s is)
 
 -- the interrupt, as a piece
 pub record Enters (before : MachineState) (t : Turned) : Type 0 where

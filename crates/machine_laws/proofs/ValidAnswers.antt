@@ -90,7 +90,7 @@ abbrev pub IsGiven : Want → Result Got NoAnswer → Type 0
 IsGiven w (Ok g) = BringsByte g × IsBelowEnd w g
 IsGiven w (Err why) = Unit {0}
 
-given-key : (key : Option ℕ) → IfSome key IsByte → IsGiven want.Key (Ok (got_of_key key))
+pub given-key : (key : Option ℕ) → IfSome key IsByte → IsGiven want.Key (Ok (got_of_key key))
 given-key None byte = (tt, (tt, tt))
 given-key (Some key) byte =
     cond_both (key == wru) got.NoKey (got.Key key) (λ (g : Got). BringsByte g × IsBelowEnd want.Key g) (λ _. (tt, (tt, tt))) (λ _. (byte, (tt, tt)))

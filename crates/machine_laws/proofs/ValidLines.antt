@@ -1,5 +1,5 @@
 -- What comes of a line is of bytes, and within its limits, where the line and what is still to come are so.
-use Rattle.std.proofs.Common.{◌≡◌, refl, ap, ◌∙◌, sym, subst, ℕ, zero, suc, ◌+◌, ◌≤◌, ◌==◌, ◌&&◌, Bool, true, false, List, [], ◌∷◌, ◌++◌, map, length, take, drop, remove, slice_get, slice_set, replicate, position, min, nat_le, Option, Some, None, IfSome, Ok, is_some, option_map, arith, if◌then◌else◌}
+use Rattle.std.proofs.Common.{◌⊎◌, inr, inl, ◌≡◌, refl, ap, ◌∙◌, sym, subst, ℕ, zero, suc, ◌+◌, ◌≤◌, ◌==◌, ◌&&◌, Bool, true, false, List, [], ◌∷◌, ◌++◌, map, length, take, drop, remove, slice_get, slice_set, replicate, position, min, nat_le, Option, Some, None, IfSome, Ok, is_some, option_map, arith, if◌then◌else◌}
 use Rattle.std.specs.List.{AllByRecursion}
 use Rattle.std.proofs.Math.Seq.{drop-nil}
 use Rattle.std.proofs.lemmas.Bool.{cond_both, leb-false}
@@ -23,11 +23,12 @@ use Rattle.unit_trait.specs.declared.calls.Want.TheVariants as want
 use Rattle.unit_trait.specs.declared.calls.Got.{Got}
 use Rattle.unit_trait.specs.declared.calls.Got.TheVariants as got
 use Rattle.nova_machine.specs.Machine.{line_count, new_machine, reset_machine, reset_devices}
-use Rattle.nova_machine.specs.OnLines.{Lined, got_of_line, lined_by, put_line, put_got, lined}
+use Rattle.expect_actions.specs.Expects.{ExpectTable, after_printed}
+use Rattle.nova_machine.specs.OnLines.{Lined, Around, got_of_line, lined_by, put_by, put_line, put_got, console_in, console_polled, console_key, console_put, lined}
 use Rattle.nova_machine.specs.Valid.{AreBytes, IsPort, ValidLine, ValidAnswer, ValidTraffic, ValidAhead}
 use Rattle.machine_laws.proofs.ValidBytes.{IsByte, bytes-append, bytes-take, bytes-drop}
 use Rattle.nova_machine.proofs.Each.{every-drop, every-remove, every-set}
-use Rattle.machine_laws.proofs.ValidAnswers.{WritesByte, IsGiven}
+use Rattle.machine_laws.proofs.ValidAnswers.{WritesByte, PrintsByte, IsGiven, given-key}
 
 -- ---- few bytes
 
@@ -304,11 +305,13 @@ polled-valid now line ahead valid all =
 
 -- ---- a want that is for a line
 
--- what it comes to: the unit can be asked to take the answer, and the lines and what is still to come stay in their ranges
-pub record ValidLined (w : Want) (l : Lined) : Type 0 where
+-- What it comes to, where those texts are waited for: the unit can be asked to take the answer, the lines and what is still to
+-- come stay in their ranges, and a byte is compared with the texts at the most.
+pub record ValidLined (w : Want) (expects : ExpectTable) (l : Lined) : Type 0 where
   pub got : IsGiven w (Ok l.got)
   pub lines : AllByRecursion ValidLine l.lines
   pub ahead : ValidAhead l.ahead
+  pub waits : (l.expects ≡ expects) ⊎ ((byte : ℕ) × IsByte byte × (l.expects ≡ after_printed byte expects))
 
 got-key : (n : ℕ) (key : Option ℕ) → IfSome key IsByte → IsGiven (want.LineKey n) (Ok (got_of_line key))
 got-key n None byte = (tt, (tt, tt))
@@ -317,29 +320,66 @@ got-key n (Some key) byte = (byte, (tt, tt))
 got-put : (n byte : ℕ) (line : LineOf Peer) → IsGiven (want.LinePut n byte) (Ok (put_got line))
 got-put n byte line = cond_both (is_full line) got.LineFull got.Done (λ (g : Got). IsGiven (want.LinePut n byte) (Ok g)) (λ _. (tt, (tt, tt))) (λ _. (tt, (tt, tt)))
 
-pub lined-valid : (time : ℕ) (w : Want) (lines : List (LineOf Peer)) (ahead : Ahead) (l : Lined) → WritesByte w → AllByRecursion ValidLine lines → ValidAhead ahead
-    → lined time w lines ahead ≡ Some l → ValidLined w l
+got-byte : (byte : ℕ) (line : LineOf Peer) → IsGiven (want.Console byte) (Ok (put_got line))
+got-byte byte line = cond_both (is_full line) got.LineFull got.Done (λ (g : Got). IsGiven (want.Console byte) (Ok g)) (λ _. (tt, (tt, tt))) (λ _. (tt, (tt, tt)))
+
+waits-put : (byte : ℕ) (expects : ExpectTable) (full : Bool) → IsByte byte
+    → ((if full then expects else after_printed byte expects) ≡ expects) ⊎ ((b : ℕ) × IsByte b × ((if full then expects else after_printed byte expects) ≡ after_printed b expects))
+waits-put byte expects true low = inl refl
+waits-put byte expects false low = inr (byte, low, refl)
+
+console-found : (lines : List (LineOf Peer)) → AllByRecursion ValidLine lines → IfSome (console_in lines) ValidLine
+console-found [] all = tt
+console-found (line ∷ lines) all = cond_both (is_some line.port) (Some line) None (λ (o : Option (LineOf Peer)). IfSome o ValidLine) (λ _. all.0) (λ _. tt)
+
+pub lined-valid : (w : Want) (a : Around) (l : Lined) → WritesByte w → PrintsByte w → AllByRecursion ValidLine a.lines → ValidAhead a.ahead → lined w a ≡ Some l → ValidLined w a.expects l
 unfolding lined
-lined-valid time (want.LineKey n) lines ahead l byte all coming there = by (slice_get lines (suc n)) (every-found ValidLine lines (suc n) all) there
+lined-valid (want.LineKey n) a l writes prints all coming there = by (slice_get a.lines (suc n)) (every-found ValidLine a.lines (suc n) all) there
   where
-    by : (o : Option (LineOf Peer)) → IfSome o ValidLine → option_map (λ line. lined_by (suc n) lines (polled time line ahead)) o ≡ Some l → ValidLined (want.LineKey n) l
+    by : (o : Option (LineOf Peer)) → IfSome o ValidLine → option_map (λ line. lined_by (suc n) a (polled a.time line a.ahead)) o ≡ Some l → ValidLined (want.LineKey n) a.expects l
     by None valid there = absurd (cc)
     by (Some line) valid there =
-        let p = polled-valid time line ahead valid coming in
-        let same : lined_by (suc n) lines (polled time line ahead) ≡ l = cc in
-        subst (ValidLined (want.LineKey n)) same
-        (record { got = got-key n (polled time line ahead).key p.key; lines = every-set ValidLine lines (suc n) (polled time line ahead).line p.line all; ahead = p.ahead })
-lined-valid time (want.LinePut n byte) lines ahead l low all coming there = by (slice_get lines (suc n)) (every-found ValidLine lines (suc n) all) there
+        let q = polled a.time line a.ahead in
+        let p = polled-valid a.time line a.ahead valid coming in
+        let same : lined_by (suc n) a q ≡ l = cc in
+        subst (ValidLined (want.LineKey n) a.expects) same
+        (record { got = got-key n q.key p.key; lines = every-set ValidLine a.lines (suc n) q.line p.line all; ahead = p.ahead; waits = inl refl })
+lined-valid (want.LinePut n byte) a l low prints all coming there = by (slice_get a.lines (suc n)) (every-found ValidLine a.lines (suc n) all) there
   where
-    by : (o : Option (LineOf Peer)) → IfSome o ValidLine
-        → option_map (λ line. record { got = put_got line; sent = []; lines = slice_set lines (suc n) (put_line byte line); ahead = ahead }) o ≡ Some l → ValidLined (want.LinePut n byte) l
+    by : (o : Option (LineOf Peer)) → IfSome o ValidLine → option_map (put_by (suc n) byte a) o ≡ Some l → ValidLined (want.LinePut n byte) a.expects l
     by None valid there = absurd (cc)
     by (Some line) valid there =
-        let done : Lined = record { got = put_got line; sent = []; lines = slice_set lines (suc n) (put_line byte line); ahead = ahead } in
-        let same : done ≡ l = cc in
-        subst (ValidLined (want.LinePut n byte)) same
-        (record { got = got-put n byte line; lines = every-set ValidLine lines (suc n) (put_line byte line) (put-valid byte line low valid) all; ahead = coming })
-lined-valid time w lines ahead l byte all coming there = absurd (cc)
+        let same : put_by (suc n) byte a line ≡ l = cc in
+        subst (ValidLined (want.LinePut n byte) a.expects) same
+        (record { got = got-put n byte line; lines = every-set ValidLine a.lines (suc n) (put_line byte line) (put-valid byte line low valid) all; ahead = coming; waits = inl refl })
+lined-valid want.Key a l writes prints all coming there = due a.due there
+  where
+    by : (o : Option (LineOf Peer)) → IfSome o ValidLine → option_map (λ line. console_polled a (polled a.time line a.ahead)) o ≡ Some l → ValidLined want.Key a.expects l
+    by None valid there = absurd (cc)
+    by (Some line) valid there =
+        let q = polled a.time line a.ahead in
+        let p = polled-valid a.time line a.ahead valid coming in
+        let same : console_polled a q ≡ l = cc in
+        subst (ValidLined want.Key a.expects) same
+        (record { got = given-key q.key p.key; lines = every-set ValidLine a.lines 0 q.line p.line all; ahead = p.ahead; waits = inl refl })
+
+    due : (key : Option ℕ) → console_key key a ≡ Some l → ValidLined want.Key a.expects l
+    due None there = by (console_in a.lines) (console-found a.lines all) there
+    due (Some key) there = absurd (cc)
+lined-valid (want.Console byte) a l writes low all coming there = by (console_in a.lines) (console-found a.lines all) there
+  where
+    by : (o : Option (LineOf Peer)) → IfSome o ValidLine → option_map (console_put byte a) o ≡ Some l → ValidLined (want.Console byte) a.expects l
+    by None valid there = absurd (cc)
+    by (Some line) valid there =
+        let same : console_put byte a line ≡ l = cc in
+        subst (ValidLined (want.Console byte) a.expects) same
+        (record {
+          got = got-byte byte line;
+          lines = every-set ValidLine a.lines 0 (put_line byte line) (put-valid byte line low valid) all;
+          ahead = coming;
+          waits = waits-put byte a.expects (is_full line) low;
+        })
+lined-valid w a l writes prints all coming there = absurd (cc)
 
 -- ---- the beginning
 

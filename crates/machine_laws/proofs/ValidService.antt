@@ -1,5 +1,5 @@
 -- The service of a unit leaves a valid state, and prints in one.
-use Rattle.std.proofs.Common.{◌≡◌, inl, inr, ℕ, ◌<◌, ◌≤◌, ◌==◌, List, [], ◌∷◌, Option, Some, None, option_map, IfSome, Result, Ok, Err, refl, ap, sym, subst, ◌∙◌, length, arith}
+use Rattle.std.proofs.Common.{◌⊎◌, ◌≡◌, inl, inr, ℕ, ◌<◌, ◌≤◌, ◌==◌, List, [], ◌∷◌, Option, Some, None, option_map, IfSome, Result, Ok, Err, refl, ap, sym, subst, ◌∙◌, length, arith}
 use Rattle.std.specs.List.{AllByRecursion}
 use Rattle.std.proofs.lemmas.Bool.{cond_both}
 use Rattle.observations.specs.Observations.{Observation, StandsAt}
@@ -30,15 +30,17 @@ use Rattle.nova_machine.specs.Parts.{Part, silent, behind_made, followed, then_p
 use Rattle.memory_transfer.specs.Tapes.{NoAnswer}
 use Rattle.nova_machine.specs.Wants.{answer_to, typed_key, own_stop, prints, unanswered}
 use Rattle.nova_machine.specs.OnLines.{Lined, sends}
-use Rattle.nova_machine.specs.Service.{want_at, asked, answered, stopping, replied, typed_at, sent_at, key_at, done_for, hosted, own_service, behind_line, line_service, lined_at, service, taken}
-use Rattle.nova_machine.specs.Valid.{ValidMachine, Valid}
+use Rattle.nova_machine.specs.Service.{want_at, asked, answered, stopping, replied, typed_at, sent_at, key_at, done_for, hosted, around, own_service, behind_line, line_service, lined_at, service, taken}
+use Rattle.expect_actions.specs.Expects.{ExpectTable, after_printed}
+use Rattle.expect_actions.specs.Watch.{WatchState}
+use Rattle.nova_machine.specs.Valid.{ValidMachine, ValidWatch, Valid}
 use Rattle.machine_laws.specs.ValidLaws.{IsValidPart}
 use Rattle.nova_machine.proofs.Hosting.{wants-in}
 use Rattle.nova_machine.proofs.Listed.{listed-served, listed-wished, among-found, times_later}
 use Rattle.machine_laws.proofs.ValidInstruction.{follows-seen}
 use Rattle.machine_laws.proofs.ValidBytes.{AreFiles, IsByte}
 use Rattle.machine_laws.proofs.ValidMemory.{bytes-disk}
-use Rattle.machine_laws.proofs.ValidWatch.{watch-after, key-typed, key-sent, key-first, taken-within}
+use Rattle.machine_laws.proofs.ValidWatch.{watch-after, watch-printed, key-typed, key-sent, key-first, taken-within}
 use Rattle.nova_machine.proofs.EachService.{each-service, sends-nowhere}
 use Rattle.machine_laws.proofs.ValidLines.{ValidLined, lined-valid}
 use Rattle.machine_laws.proofs.ValidAnswers.{writes-in, prints-in, IsGiven, answer-given, files-behind, memory-hosted}
@@ -215,14 +217,20 @@ valid-own fault u s low is =
 
 -- ---- what it wants is done on a line
 
-valid-lined : (u : UnitName) (l : Lined) (s : Seen) → lined_at u s ≡ Some l → Valid s → ValidLined (want_at u s.machine) l
+valid-lined : (u : UnitName) (l : Lined) (s : Seen) → lined_at u s ≡ Some l → Valid s → ValidLined (want_at u s.machine) s.watch.expects l
 valid-lined u l s there is =
-    lined-valid s.machine.time (want_at u s.machine) s.lines s.ahead l (writes-in (code_of u.kind) u.unit s.machine.units is.machine.core.registers) is.lines is.ahead there
+    lined-valid (want_at u s.machine) (around s) l (writes-in (code_of u.kind) u.unit s.machine.units is.machine.core.registers)
+    (prints-in (code_of u.kind) u.unit s.machine.units is.machine.core.registers) is.lines is.ahead there
 
-behind-valid : (u : UnitName) (l : Lined) (s : Seen) → ValidLined (want_at u s.machine) l → Valid s → Valid (behind_line u l s)
+-- the texts that are waited for stay in their ranges
+waits-valid : (w : WatchState) (l : Lined) → (l.expects ≡ w.expects) ⊎ ((byte : ℕ) × IsByte byte × (l.expects ≡ after_printed byte w.expects)) → ValidWatch w → ValidWatch (record w { expects = l.expects })
+waits-valid w l (inl same) is = subst (λ (t : ExpectTable). ValidWatch (record w { expects = t })) (sym same) is
+waits-valid w l (inr (byte, low, same)) is = subst (λ (t : ExpectTable). ValidWatch (record w { expects = t })) (sym same) (watch-printed byte w low is)
+
+behind-valid : (u : UnitName) (l : Lined) (s : Seen) → ValidLined (want_at u s.machine) s.watch.expects l → Valid s → Valid (behind_line u l s)
 behind-valid u l s lined is = record {
   machine = valid-asked u s.machine is.machine;
-  watch = is.watch;
+  watch = waits-valid s.watch l lined.waits is.watch;
   taken = subst (λ (n : ℕ). n ≤ most_keys) (sym (asked-taken u s.machine)) is.taken;
   known = is.known;
   keys = is.keys;
@@ -240,8 +248,8 @@ unfolding line_service
 valid-line u l s low there is =
     let lined = valid-lined u l s there is in
     let can = subst (λ (x : List UnitState). CanReply u x (Ok l.got)) (line-units u l s) (can-reply u s.machine.units (Ok l.got) lined.got) in
-    valid-behind (sends l.sent) (replied u None (Ok l.got) (behind_line u l s)) (λ t h. absurd (sends-nowhere l.sent t h))
-    (valid-replied u None (Ok l.got) (behind_line u l s) low can (behind-valid u l s lined is))
+    valid-behind (sends l.sent) (replied u l.stop (Ok l.got) (behind_line u l s)) (λ t h. absurd (sends-nowhere l.sent t h))
+    (valid-replied u l.stop (Ok l.got) (behind_line u l s) low can (behind-valid u l s lined is))
 
 pub valid-service : (fault : Option Failure) (u : UnitName) (s : Seen) → u.unit < units_of u.kind → Valid s → IsValidPart (service fault u s)
 valid-service fault u s low is = each-service IsValidPart fault u s (valid-own fault u s low is) (λ l there. valid-line u l s low there is)

@@ -111,7 +111,7 @@ last-bytes : (text : List ℕ) → AreBytes text → AreBytes (last_bytes text)
 last-bytes text all = every-drop IsByte (length text - longest_text) text all
 
 -- a byte was printed
-watch-printed : (byte : ℕ) (w : WatchState) → IsByte byte → ValidWatch w → ValidWatch (record w { expects = after_printed byte w.expects })
+pub watch-printed : (byte : ℕ) (w : WatchState) → IsByte byte → ValidWatch w → ValidWatch (record w { expects = after_printed byte w.expects })
 watch-printed byte w low is =
     let printed = printed_with byte w.expects in
     let now = expects-matched (first_match printed w.expects.list) printed w.expects (last-short (w.expects.tail ++ byte ∷ []))

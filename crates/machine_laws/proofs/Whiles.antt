@@ -46,7 +46,7 @@ own-dues fault u s fit =
 
 line-dues : (u : UnitName) (l : Lined) (s : Seen) → AllFit s.machine.units → dues (line_service u l s).after.machine.events ≡ dues s.machine.events
 unfolding line_service asked
-line-dues u l s fit = replied-dues u None (Ok l.got) (behind_line u l s) (after-fits (code_of u.kind) u.unit s.machine.units fit)
+line-dues u l s fit = replied-dues u l.stop (Ok l.got) (behind_line u l s) (after-fits (code_of u.kind) u.unit s.machine.units fit)
 
 service-dues : (fault : Option Failure) (u : UnitName) (s : Seen) → AllFit s.machine.units → dues (service fault u s).after.machine.events ≡ dues s.machine.events
 service-dues fault u s fit =

@@ -8,6 +8,8 @@ mod bursts;
 #[cfg(test)]
 mod chance;
 #[cfg(test)]
+mod consoles;
+#[cfg(test)]
 mod lines;
 #[cfg(test)]
 mod looks;

@@ -1,4 +1,4 @@
-// The terminal lines of rows: one caller, and line 0 of the machine.
+// The lines of rows: one caller, and line 0 of the machine or its console line.
 ghost use Rattle.std.specs.Prelude.{◌≡◌};
 
 use crate::row::{Row, byte_of, bytes, check, decimal, field, small, text};
@@ -12,7 +12,7 @@ use unit_trait::Unit;
 /// What is sent first on a connection.
 const OPENING: [u8; 12] = [255, 251, 1, 255, 251, 3, 255, 251, 0, 255, 253, 0];
 
-/// The port of line 0.
+/// The port of line 0, or of the console line.
 const PORT: u16 = 4000;
 
 /// Lines on which nothing comes and nothing is sent.
@@ -51,7 +51,7 @@ fn calls(
     }
 }
 
-/// Listens on a port, and line 0 gets it, where the row says so.
+/// Listens on a port, and line 0 or the console line gets it, where the row says so.
 pub fn gives_port<U: Unit>(
     rt: &impl Abort,
     alloc: Global,
@@ -64,6 +64,9 @@ pub fn gives_port<U: Unit>(
     if text(row, "port") == "given" {
         let listens = lines.listen(alloc, PORT).is_ok();
         check(rt, listens && takes_port(machine), row.line);
+    } else if text(row, "port") == "console" {
+        check(rt, lines.listen(alloc, PORT).is_ok(), row.line);
+        machine.console().set_port(Some(PORT));
     }
 }
 
@@ -80,7 +83,7 @@ fn takes_port<U: Unit>(machine: &mut Machine<U>) -> bool
     }
 }
 
-/// What was sent, how many calls have failed, and how line 0 is.
+/// What was sent, how many calls have failed, and how line 0 and the console line are.
 pub fn lines_stand<U: Unit>(
     rt: &impl Abort,
     machine: &mut Machine<U>,
@@ -90,6 +93,7 @@ pub fn lines_stand<U: Unit>(
     check(rt, are_sent(lines, field(row, "sent")), row.line);
     check(rt, have_failed(lines, field(row, "lost")), row.line);
     check(rt, line_is(machine, field(row, "line")), row.line);
+    check(rt, console_is(machine, field(row, "console")), row.line);
 }
 
 fn are_sent(lines: &MemLines, wanted: Option<&str>) -> bool {
@@ -134,6 +138,14 @@ fn line_is<U: Unit>(machine: &mut Machine<U>, wanted: Option<&str>) -> bool {
         (_, None) => true,
         (None, Some(wanted)) => wanted == "none",
         (Some(line), Some(wanted)) => line_has(line, wanted),
+    }
+}
+
+/// Whether the console line has no connection, or that one.
+fn console_is<U: Unit>(machine: &Machine<U>, wanted: Option<&str>) -> bool {
+    match wanted {
+        None => true,
+        Some(wanted) => line_has(machine.console_at(), wanted),
     }
 }
 

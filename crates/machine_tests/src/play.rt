@@ -7,9 +7,9 @@
 //              what is watched: `100:2`, a break and its count; `2:OK`, a text and its count; `0:1000:Y`, the AFTER, DELAY
 //              and bytes of what is sent at time 0; and the lines of a keys file
 //   room       how many bytes the console takes
-//   types      what a caller of terminal line 0 types, who connects to its port at time 0; `hangs`, when this caller hangs
+//   types      what a caller of the line with the port types, who connects to it at time 0; `hangs`, when this caller hangs
 //              up; `takes`, how many bytes all callers are sent at the most; `refuses`, the calls on the lines that fail
-//   port       whether line 0 has its port: `given`
+//   port       whether line 0 has its port, `given`, or the console line, `console`
 //   do         what is done, in this order: `run=9:Halt` and `step=9:Stepped`, runs and their ends; `turn=Executed`;
 //              `reset`; `detach=PTR`; a value that is put; `AC0?101`, `time?300` and `taken?1`, what then is to be
 // and what there is to be then, each compared where it is named:
@@ -22,6 +22,7 @@
 //              the counts of breaks and of texts that are left, and how many bytes wait for the keyboard
 //   sent       `nothing`, or the opening and these bytes, to that caller; `lost`, how many calls on the lines have failed
 //   line       `none`, where line 0 is not there; `free`, where it has no connection; else the connection
+//   console    the same of the console line, which is always there
 //   left       what is in files; any other of `files` is as before
 ghost use Rattle.unit_files.specs.Open.{AllOpen};
 

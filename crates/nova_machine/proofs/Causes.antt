@@ -8,7 +8,7 @@ use Rattle.expect_actions.specs.Watch.{WatchState}
 use Rattle.nova_machine.specs.declared.machine.Stop.{Stop}
 use Rattle.nova_machine.specs.declared.machine.Stop.TheVariants.{Expect, Wru}
 use Rattle.nova_machine.specs.Machine.{MachineState}
-use Rattle.nova_machine.specs.StopCauses.{Moment, IsCountedDown, AreCountedDown, all_printed, NoneMatches, LastMatches, Matches, Watches, TookWru, ServiceCause}
+use Rattle.nova_machine.specs.StopCauses.{Moment, console_bytes, IsCountedDown, AreCountedDown, all_printed, NoneMatches, LastMatches, Matches, Watches, TookWru, ServiceCause}
 
 -- ---- breaks
 
@@ -68,11 +68,24 @@ matches-none stop bytes t other none = none
 
 -- ---- the watch tables
 
+-- bytes of the console, one list behind another
+pub none-bytes : (ported : Bool) → console_bytes ported [] ≡ []
+none-bytes true = refl
+none-bytes false = refl
+
+bytes-more : (ported : Bool) (one two : List ℕ) → console_bytes ported (one ++ two) ≡ console_bytes ported one ++ console_bytes ported two
+bytes-more true one two = refl
+bytes-more false one two = refl
+
+pub text-same : (ported : Bool) (text : List ℕ) → text ≡ text ++ console_bytes ported []
+text-same ported text = sym (append-nil text) ∙ ap (λ (l : List ℕ). text ++ l) (sym (none-bytes ported))
+
 -- nothing is made of them
-pub watches-still : (stop : Option Stop) (old new : Moment) (tells : Bool) (text : List ℕ) → IsNoMatch stop → new.watch ≡ old.watch → new.taken ≡ old.taken → Watches stop old new tells text text
-watches-still stop old new tells text other same taken = record {
+pub watches-still : (stop : Option Stop) (old new : Moment) (tells : Bool) (text : List ℕ) → IsNoMatch stop → new.watch ≡ old.watch → new.taken ≡ old.taken → new.ported ≡ old.ported → Watches stop old new tells text text
+watches-still stop old new tells text other same taken ported = record {
   bytes = [];
-  written = λ _. sym (append-nil text);
+  written = λ _. text-same old.ported text;
+  ported = ported;
   compared = ap (λ (w : WatchState). w.expects) same;
   matches = matches-none stop [] old.watch.expects other tt;
   breaks = subst (λ (w : WatchState). AreCountedDown old.watch.breaks.list w.breaks.list) (sym same) (counted-same old.watch.breaks.list);
@@ -88,7 +101,13 @@ watches-then stop first second third tells x y z one two =
     let after = two.keys in
     record {
       bytes = one.bytes ++ two.bytes;
-      written = λ told. two.written told ∙ ap (λ (l : List ℕ). l ++ two.bytes) (one.written told) ∙ append_assoc x one.bytes two.bytes;
+      written = λ told.
+          two.written told
+          ∙ ap (λ (p : Bool). y ++ console_bytes p two.bytes) one.ported
+          ∙ ap (λ (l : List ℕ). l ++ console_bytes first.ported two.bytes) (one.written told)
+          ∙ append_assoc x (console_bytes first.ported one.bytes) (console_bytes first.ported two.bytes)
+          ∙ ap (λ (l : List ℕ). x ++ l) (sym (bytes-more first.ported one.bytes two.bytes));
+      ported = two.ported ∙ one.ported;
       compared = two.compared ∙ ap (all_printed two.bytes) one.compared ∙ sym (printed-more one.bytes two.bytes first.watch.expects);
       matches = matches-more stop one.bytes two.bytes first.watch.expects one.matches (subst S one.compared two.matches);
       breaks = counted-then first.watch.breaks.list second.watch.breaks.list third.watch.breaks.list one.breaks two.breaks;
@@ -99,25 +118,27 @@ watches-then stop first second third tells x y z one two =
 
 -- the same, where the two do not name one moment, or a stop is none
 pub watches-goes : (stop goes : Option Stop) (first second second' third : Moment) (tells : Bool) (x y z : List ℕ) → goes ≡ None → second'.watch ≡ second.watch → second'.taken ≡ second.taken
-    → Watches goes first second tells x y → Watches stop second' third tells y z → Watches stop first third tells x z
-watches-goes stop goes first second second' third tells x y z none same taken one two =
+    → second'.ported ≡ second.ported → Watches goes first second tells x y → Watches stop second' third tells y z → Watches stop first third tells x z
+watches-goes stop goes first second second' third tells x y z none same taken ported one two =
     let P : Option Stop → Type 0 = λ s. Watches s first second tells x y in
     watches-then stop first second third tells x y z (subst P none one)
-    (watches-then stop second second' third tells y y z (watches-still None second second' tells y tt same taken) two)
+    (watches-then stop second second' third tells y y z (watches-still None second second' tells y tt same taken ported) two)
 
 -- behind that nothing is made of them
 pub watches-left : (stop goes : Option Stop) (first second third : Moment) (tells : Bool) (x y : List ℕ) → goes ≡ None → IsNoMatch stop → third.watch ≡ second.watch → third.taken ≡ second.taken
-    → Watches goes first second tells x y → Watches stop first third tells x y
-watches-left stop goes first second third tells x y none other same taken one =
-    watches-goes stop goes first second second third tells x y y none refl refl one (watches-still stop second third tells y other same taken)
+    → third.ported ≡ second.ported → Watches goes first second tells x y → Watches stop first third tells x y
+watches-left stop goes first second third tells x y none other same taken ported one =
+    watches-goes stop goes first second second third tells x y y none refl refl refl one (watches-still stop second third tells y other same taken ported)
 
 -- a test of the breaks
 pub watches-tested : (stop goes : Option Stop) (first second third : Moment) (tells : Bool) (x y : List ℕ) → goes ≡ None → IsNoMatch stop → third.watch ≡ record second.watch { breaks = third.watch.breaks }
-    → AreCountedDown second.watch.breaks.list third.watch.breaks.list → third.taken ≡ second.taken → Watches goes first second tells x y → Watches stop first third tells x y
-watches-tested stop goes first second third tells x y none other same lowered taken one =
-    watches-goes stop goes first second second third tells x y y none refl refl one (record {
+    → AreCountedDown second.watch.breaks.list third.watch.breaks.list → third.taken ≡ second.taken → third.ported ≡ second.ported → Watches goes first second tells x y
+    → Watches stop first third tells x y
+watches-tested stop goes first second third tells x y none other same lowered taken ported one =
+    watches-goes stop goes first second second third tells x y y none refl refl refl one (record {
       bytes = [];
-      written = λ _. sym (append-nil y);
+      written = λ _. text-same second.ported y;
+      ported = ported;
       compared = ap (λ (w : WatchState). w.expects) same;
       matches = matches-none stop [] second.watch.expects other tt;
       breaks = lowered;

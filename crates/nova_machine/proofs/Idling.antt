@@ -27,7 +27,7 @@ use Rattle.expect_actions.specs.KeysFile.{due_key}
 use Rattle.host_lines.specs.Traffic.{Answer, Peer}
 use Rattle.host_lines.specs.State.{LineState}
 use Rattle.nova_machine.specs.declared.machine.Stop.TheVariants.{ChainLimit}
-use Rattle.nova_machine.specs.Machine.{MachineState, place_of}
+use Rattle.nova_machine.specs.Machine.{MachineState, console_place, place_of}
 use Rattle.nova_machine.specs.Notes.{UnitNote, RunNote, at_time, at_unit}
 use Rattle.nova_machine.specs.Seen.{Seen, seen, beside, erased, with_machine}
 use Rattle.nova_machine.specs.Parts.{Part, silent, then_part}
@@ -189,8 +189,13 @@ closed-seen b (first ∷ []) is = absurd (cc)
 closed-seen b (first ∷ line ∷ lines) is =
     let same : line ≡ unconnected None = grind arith in ap (λ (l : LineOf ℕ). Some (seen_line b l)) same
 
+pub console-closed : (b : LineState) (lines : List (LineOf ℕ)) → slice_get lines console_place ≡ Some (unconnected None) → slice_get (map (seen_line b) lines) console_place ≡ Some (unconnected None)
+console-closed b [] is = absurd (cc)
+console-closed b (line ∷ lines) is =
+    let same : line ≡ unconnected None = grind arith in ap (λ (l : LineOf ℕ). Some (seen_line b l)) same
+
 unheard-seen : (b : LineState) (lines : List (LineOf ℕ)) (k : Kind) → IsUnheard k lines → IsUnheard k (map (seen_line b) lines)
-unheard-seen b lines Tti is = tt
+unheard-seen b lines Tti is = console-closed b lines is
 unheard-seen b lines Tti1 is = closed-seen b lines is
 unheard-seen b lines k is = absurd is
 

@@ -1,14 +1,13 @@
 -- Looks of both keyboards at one time, with a poll of a line, ahead of the turn that they belong to.
-use Rattle.std.proofs.Common.{◌≡◌, ◌≢◌, ◌∙◌, refl, ap, sym, subst, arith, ℕ, zero, suc, ◌+◌, ◌-◌, ◌<◌, Bool, false, List, [], ◌∷◌, ◌++◌, append_assoc, append-nil, map, Option, Some, None, option_map, slice_get, IfSome, is_some, ◌==◌, true, if◌then◌else◌}
+use Rattle.std.proofs.Common.{◌≡◌, ◌≢◌, ◌∙◌, refl, ap, sym, subst, arith, ℕ, zero, suc, ◌+◌, ◌-◌, ◌<◌, Bool, false, List, [], ◌∷◌, ◌++◌, append_assoc, append-nil, Option, Some, None, option_map, slice_get, IfSome, is_some, ◌==◌, true, if◌then◌else◌}
 use Rattle.std.proofs.lemmas.Option.{same_Some}
 use Rattle.std.proofs.lemmas.Bool.Decides.{nat_tests}
 use Rattle.observations.specs.Observations.{Observation}
 use Rattle.file_traits.specs.Lists.{NamedBytes}
 use Rattle.host_lines.specs.Traffic.{Peer, Answer}
-use Rattle.host_lines.specs.Told.{IsFirst, record_in, ahead_of}
+use Rattle.host_lines.specs.Told.{IsFirst, record_in}
 use Rattle.host_lines.specs.State.{LineState}
 use Rattle.telnet_lines.specs.Line.{LineOf}
-use Rattle.telnet_lines.specs.Joined.{seen_line}
 use Rattle.unit_trait.specs.declared.kind.UnitName.{UnitName}
 use Rattle.unit_trait.specs.declared.kind.Kind.TheVariants.{Tti1}
 use Rattle.unit_trait.specs.declared.calls.Queue.{Queue}
@@ -32,10 +31,13 @@ use Rattle.nova_machine.specs.Notes.{UnitNote, RunNote, at_time, at_unit}
 use Rattle.nova_machine.specs.Seen.{Seen, seen, beside, with_machine}
 use Rattle.nova_machine.specs.Parts.{Part, silent, behind_made, followed, then_part}
 use Rattle.nova_machine.specs.Turned.{Turned, goes_on, still}
+use Rattle.expect_actions.specs.Expects.{ExpectTable}
+use Rattle.nova_machine.specs.declared.on_line.OnLine.TheVariants.{Gets}
 use Rattle.nova_machine.specs.OnLines.{lined}
+use Rattle.nova_machine.proofs.ConsoleSteps.{key-as}
 use Rattle.nova_machine.specs.LineChanges.{DoneOnLine}
 use Rattle.nova_machine.specs.Comes.{Output, output, Comes, Does}
-use Rattle.nova_machine.specs.Service.{asked, answered, service, services, serving, taken}
+use Rattle.nova_machine.specs.Service.{asked, answered, first_stop, service, services, serving, taken}
 use Rattle.nova_machine.specs.Turn.{fetch, interrupt, breaks_tested_unless, attended, prepared, turn}
 use Rattle.nova_machine.specs.Run.{last_time, next_turn, turns}
 use Rattle.nova_machine.specs.Bursts.{Bursts}
@@ -44,8 +46,8 @@ use Rattle.nova_machine.specs.LineLooks.{second_keyboard, first_looked, LookAgai
 use Rattle.nova_machine.proofs.Parts.{silent-comes, comes-behind, comes-then}
 use Rattle.nova_machine.proofs.Opened.{turn-opened, serving-is, services-none, services-some, turns-some, next-early}
 use Rattle.nova_machine.proofs.Looks.{asked_for, each-look, asked-same, wants-key, wish-there, answered-same, key-goes}
-use Rattle.nova_machine.proofs.Idling.{no-key, looked-lines, looked-units, looked-time}
-use Rattle.nova_machine.proofs.Serving.{some-lined, comes-lined}
+use Rattle.nova_machine.proofs.Idling.{no-key, console-closed, looked-lines, looked-units, looked-time}
+use Rattle.nova_machine.proofs.Serving.{around_of, some-lined, comes-lined}
 use Rattle.nova_machine.proofs.LineSteps.{first-through}
 
 -- ---- services ahead of their turn
@@ -199,7 +201,7 @@ on-chain watch keys most done burst_end.AtStop before old after new is on = absu
 
 -- the keyboards of which the second gets an answer
 pub both-served : (period : ℕ) (watch : WatchState) (keys : List (ℕ × ℕ)) (before after : LineState) (m h last : MachineState) (got : Got) → AreLooking period m → IsKeylessNow watch keys m
-    → ((whole : List Answer) → IsFirst (record_in after.told) whole → DoneOnLine (lined m.time (want.LineKey 0) (map (seen_line before) m.lines) (ahead_of before.told whole)) (Some got) whole before after h.lines)
+    → ((whole : List Answer) → IsFirst (record_in after.told) whole → DoneOnLine (lined (want.LineKey 0) (around_of watch keys before whole m)) (Some got) whole before after h.lines)
     → h ≡ record (first_looked period m) { lines = h.lines } → None ≡ (answered second_keyboard got h).stop → last ≡ (answered second_keyboard got h).machine
     → AreServed watch keys before m after last
 both-served period watch keys before after m h last got looking keyless done is goes left = λ note files tells console whole first.
@@ -209,7 +211,7 @@ both-served period watch keys before after m h last got looking keyless done is 
     let next = seen (beside watch keys files after) whole last in
     let b = output console before.sent in
     let a = output console after.sent in
-    let looks : LooksEach Peer period (taken s).machine.units (taken s).lines keyboard = record { unheard = tt; number = refl; wish = looking.again.first } in
+    let looks : LooksEach Peer period (taken s).machine.units (taken s).lines keyboard = record { unheard = console-closed before m.lines keyless.2; number = refl; wish = looking.again.first } in
     let one : serving note s ≡ then_part (service (at_unit second_keyboard note) second_keyboard mid) (λ n. services note [] n) =
     serving-is note s ∙ ap (λ (us : List UnitName). services note us s) looking.dues
     ∙ services-some note keyboard (second_keyboard ∷ []) s
@@ -217,12 +219,14 @@ both-served period watch keys before after m h last got looking keyless done is 
     ∙ services-some note second_keyboard [] (with_machine (taken s) (asked_for keyboard period (taken s).machine)) in
     let there = wish-there Tti1 m.units period looking.again.second in
     let asks : at ≡ asked second_keyboard at = sym (asked-same Tti1 tt at) in
-    let l = some-lined second_keyboard at at (want.LineKey 0) got before after whole h.lines asks (sym (wants-key Tti1 tt m.units there)) (done whole first) in
+    let l = some-lined second_keyboard at at (want.LineKey 0) (Gets got) watch keys before after whole h.lines asks (sym (wants-key Tti1 tt m.units there))
+    (key-as 0 (around_of watch keys before whole at) got whole before after h.lines (done whole first)) in
     let same = ap (λ (x : Got). answered second_keyboard x h) l.got_is in
     let is_asked : h ≡ record (asked second_keyboard at) { lines = h.lines } = is ∙ ap (λ (x : MachineState). record x { lines = h.lines }) asks in
     let second : Comes (service (at_unit second_keyboard note) second_keyboard mid) None next tells b a =
-    comes-lined (at_unit second_keyboard note) second_keyboard watch keys files before after whole at h last l.done None tells b a l.is l.lines l.ahead l.heard (λ _. sym (append-nil console))
-    is_asked tt (goes ∙ ap (λ (t : Turned). t.stop) same) (left ∙ ap (λ (t : Turned). t.machine) same) in
+    comes-lined (at_unit second_keyboard note) second_keyboard watch watch keys files before after whole at h last l.done None tells b a l.is
+    (ap (λ (t : ExpectTable). record watch { expects = t }) l.waits_is) l.lines l.ahead l.heard (λ _. sym (append-nil console)) is_asked tt
+    (goes ∙ ap (λ (t : Turned). t.stop) same ∙ ap (λ (o : Option Stop). first_stop o (answered second_keyboard l.done.got h).stop) l.stop_is) (left ∙ ap (λ (t : Turned). t.machine) same) in
     let over : Comes (services note [] next) None next tells a a = subst (λ (p : Part). Comes p None next tells a a) (sym (services-none note next)) (silent-comes None None next next tells a tt refl refl) in
     subst (λ (p : Part). Comes p None next tells b a) (sym one)
     (comes-then (service (at_unit second_keyboard note) second_keyboard mid) (λ n. services note [] n) next None next tells b a a second over)
@@ -238,7 +242,7 @@ silent-answer period m ls looking =
     ∙ ap (λ (us : List UnitName). goes_on (record m { events = asked_again period us m.events; lines = ls })) (sym looking.dues)
 
 pub both-silent : (period : ℕ) (watch : WatchState) (keys : List (ℕ × ℕ)) (before after : LineState) (m last : MachineState) → AreLooking period m → IsKeylessNow watch keys m
-    → ((whole : List Answer) → IsFirst (record_in after.told) whole → DoneOnLine (lined m.time (want.LineKey 0) (map (seen_line before) m.lines) (ahead_of before.told whole)) (Some NoKey) whole before after last.lines)
+    → ((whole : List Answer) → IsFirst (record_in after.told) whole → DoneOnLine (lined (want.LineKey 0) (around_of watch keys before whole m)) (Some NoKey) whole before after last.lines)
     → last ≡ record (looked_at period m) { lines = last.lines } → AreServed watch keys before m after last
 both-silent period watch keys before after m last looking keyless done is =
     let h = record (first_looked period m) { lines = last.lines } in
@@ -266,20 +270,20 @@ key-goes-on period m h key looking same =
 
 silent-poll : (period : ℕ) (watch : WatchState) (keys : List (ℕ × ℕ)) (before after : LineState) (m n last : MachineState) (got : Got) → AreLooking period m → IsKeylessNow watch keys m
     → n ≡ record m { lines = n.lines } → last ≡ looked_at period n → got ≡ NoKey
-    → ((whole : List Answer) → IsFirst (record_in after.told) whole → DoneOnLine (lined m.time (want.LineKey 0) (map (seen_line before) m.lines) (ahead_of before.told whole)) (Some got) whole before after n.lines)
+    → ((whole : List Answer) → IsFirst (record_in after.told) whole → DoneOnLine (lined (want.LineKey 0) (around_of watch keys before whole m)) (Some got) whole before after n.lines)
     → AreServed watch keys before m after last
 silent-poll period watch keys before after m n last got looking keyless is looks none done =
     let at : n.lines ≡ last.lines = sym (ap (λ (x : MachineState). x.lines) looks ∙ looked-lines period n) in
-    let D : List Answer → Got → List (LineOf ℕ) → Type 0 = λ whole g ls. DoneOnLine (lined m.time (want.LineKey 0) (map (seen_line before) m.lines) (ahead_of before.told whole)) (Some g) whole before after ls in
+    let D : List Answer → Got → List (LineOf ℕ) → Type 0 = λ whole g ls. DoneOnLine (lined (want.LineKey 0) (around_of watch keys before whole m)) (Some g) whole before after ls in
     both-silent period watch keys before after m last looking keyless
     (λ whole first. subst (λ (ls : List (LineOf ℕ)). D whole NoKey ls) at (subst (λ (g : Got). D whole g n.lines) none (done whole first))) (silent-is period m n last is looks)
 
 key-poll : (period : ℕ) (watch : WatchState) (keys : List (ℕ × ℕ)) (before after : LineState) (m n last : MachineState) (got : Got) (key : ℕ) → AreLooking period m → IsKeylessNow watch keys m
     → n ≡ record m { lines = n.lines } → last ≡ (answered second_keyboard (Key key) (first_looked period n)).machine → got ≡ Key key
-    → ((whole : List Answer) → IsFirst (record_in after.told) whole → DoneOnLine (lined m.time (want.LineKey 0) (map (seen_line before) m.lines) (ahead_of before.told whole)) (Some got) whole before after n.lines)
+    → ((whole : List Answer) → IsFirst (record_in after.told) whole → DoneOnLine (lined (want.LineKey 0) (around_of watch keys before whole m)) (Some got) whole before after n.lines)
     → AreServed watch keys before m after last
 key-poll period watch keys before after m n last got key looking keyless is left came done =
-    let D : List Answer → Got → Type 0 = λ whole g. DoneOnLine (lined m.time (want.LineKey 0) (map (seen_line before) m.lines) (ahead_of before.told whole)) (Some g) whole before after n.lines in
+    let D : List Answer → Got → Type 0 = λ whole g. DoneOnLine (lined (want.LineKey 0) (around_of watch keys before whole m)) (Some g) whole before after n.lines in
     let h = first_looked period n in
     both-served period watch keys before after m h last (Key key) looking keyless (λ whole first. subst (λ (g : Got). D whole g) came (done whole first)) (ap (first_looked period) is)
     (key-goes-on period m h key looking (ap (λ (x : MachineState). x.units) is)) left
@@ -342,7 +346,7 @@ looked-kinds period m n last is looks =
 
 pub silent-ahead : (period : ℕ) (watch : WatchState) (keys : List (ℕ × ℕ)) (before after : LineState) (m n last : MachineState) (got : Got) → AreLooking period m → IsKeylessNow watch keys m
     → m.time < last_time → n ≡ record m { lines = n.lines } → last ≡ looked_at period n → got ≡ NoKey
-    → ((whole : List Answer) → IsFirst (record_in after.told) whole → DoneOnLine (lined m.time (want.LineKey 0) (map (seen_line before) m.lines) (ahead_of before.told whole)) (Some got) whole before after n.lines)
+    → ((whole : List Answer) → IsFirst (record_in after.told) whole → DoneOnLine (lined (want.LineKey 0) (around_of watch keys before whole m)) (Some got) whole before after n.lines)
     → IsAhead watch keys before m after last
 silent-ahead period watch keys before after m n last got looking keyless early is looks none done =
     let time : last.time ≡ m.time = ap (λ (x : MachineState). x.time) looks ∙ looked-time period n ∙ ap (λ (x : MachineState). x.time) is in
@@ -351,7 +355,7 @@ silent-ahead period watch keys before after m n last got looking keyless early i
 
 pub key-ahead : (period : ℕ) (watch : WatchState) (keys : List (ℕ × ℕ)) (before after : LineState) (m n last : MachineState) (got : Got) (key : ℕ) → AreLooking period m → IsKeylessNow watch keys m
     → m.time < last_time → n ≡ record m { lines = n.lines } → last ≡ (answered second_keyboard (Key key) (first_looked period n)).machine → last.time ≡ n.time → dues last.events ≡ [] → got ≡ Key key
-    → ((whole : List Answer) → IsFirst (record_in after.told) whole → DoneOnLine (lined m.time (want.LineKey 0) (map (seen_line before) m.lines) (ahead_of before.told whole)) (Some got) whole before after n.lines)
+    → ((whole : List Answer) → IsFirst (record_in after.told) whole → DoneOnLine (lined (want.LineKey 0) (around_of watch keys before whole m)) (Some got) whole before after n.lines)
     → IsAhead watch keys before m after last
 key-ahead period watch keys before after m n last got key looking keyless early is left time none came done =
     served-ahead watch keys before m after last early (time ∙ ap (λ (x : MachineState). x.time) is) none (key-poll period watch keys before after m n last got key looking keyless is left came done)

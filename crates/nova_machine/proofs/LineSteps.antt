@@ -17,7 +17,8 @@ use Rattle.unit_trait.specs.declared.calls.Want.{Want}
 use Rattle.unit_trait.specs.declared.calls.Want.TheVariants as want
 use Rattle.unit_trait.specs.declared.calls.Got.TheVariants as got
 use Rattle.nova_machine.proofs.Hearing.{both-heard}
-use Rattle.nova_machine.specs.OnLines.{Lined, lined, lined_by, got_of_line, put_line, put_got}
+use Rattle.expect_actions.specs.Expects.{ExpectTable}
+use Rattle.nova_machine.specs.OnLines.{Lined, around_at, lined, lined_by, put_by, got_of_line, put_line, put_got}
 use Rattle.nova_machine.specs.LineChanges.{ports_of, HaveNoPort, HasConnection, AreLinesTold, HearsOn, LinesGoOn, DoneOnLine}
 
 -- ---- records of answers
@@ -125,12 +126,12 @@ ports-set zero (line ∷ lines) before after at same =
     ap (λ (p : Option ℕ). p ∷ ports_of lines) (same ∙ ap (λ (l : LineOf ℕ). l.port) (sym is))
 ports-set (suc i) (line ∷ lines) before after at same = ap (λ (ps : List (Option ℕ)). line.port ∷ ps) (ports-set i lines before after at same)
 
-no-port-at : (i : ℕ) (lines : List (LineOf ℕ)) (line : LineOf ℕ) → slice_get lines i ≡ Some line → HaveNoPort lines → line.port ≡ None
+pub no-port-at : (i : ℕ) (lines : List (LineOf ℕ)) (line : LineOf ℕ) → slice_get lines i ≡ Some line → HaveNoPort lines → line.port ≡ None
 no-port-at i [] line at none = absurd (cc)
 no-port-at zero (l ∷ lines) line at none = ap (λ (x : LineOf ℕ). x.port) (sym (same_Some l line at)) ∙ none.0
 no-port-at (suc i) (l ∷ lines) line at none = no-port-at i lines line at none.1
 
-set-same : {P : Type 0} (i : ℕ) (lines : List (LineOf P)) (line : LineOf P) → slice_get lines i ≡ Some line → slice_set lines i line ≡ lines
+pub set-same : {P : Type 0} (i : ℕ) (lines : List (LineOf P)) (line : LineOf P) → slice_get lines i ≡ Some line → slice_set lines i line ≡ lines
 set-same i [] line at = refl
 set-same {P} zero (l ∷ lines) line at = ap (λ (x : LineOf P). x ∷ lines) (sym (same_Some l line at))
 set-same {P} (suc i) (l ∷ lines) line at = ap (λ (ls : List (LineOf P)). l ∷ ls) (set-same i lines line at)
@@ -178,67 +179,71 @@ one-goes-on tells i old lines before new after step =
 -- ---- what was done on a line
 
 -- a line by its number, as it is seen
-seen-at : (s : LineState) (lines : List (LineOf ℕ)) (n : ℕ) (o : Option (LineOf ℕ)) → slice_get lines n ≡ o
+pub seen-at : (s : LineState) (lines : List (LineOf ℕ)) (n : ℕ) (o : Option (LineOf ℕ)) → slice_get lines n ≡ o
     → slice_get (map (seen_line s) lines) n ≡ option_map (seen_line s) o
 seen-at s lines n o is = slice_get-map (seen_line s) lines n ∙ ap (option_map (seen_line s)) is
 
 -- a want that is for no line, or for one that is not there
-unlined : (time : ℕ) (w : Want) (s : LineState) (lines : List (LineOf ℕ)) (whole : List Answer)
-    → lined time w (map (seen_line s) lines) (ahead_of s.told whole) ≡ None → DoneOnLine (lined time w (map (seen_line s) lines) (ahead_of s.told whole)) None whole s s lines
-unlined time w s lines whole none =
+unlined : (time : ℕ) (due : Option ℕ) (expects : ExpectTable) (w : Want) (s : LineState) (lines : List (LineOf ℕ)) (whole : List Answer)
+    → lined w (around_at time due expects (map (seen_line s) lines) (ahead_of s.told whole)) ≡ None → DoneOnLine (lined w (around_at time due expects (map (seen_line s) lines) (ahead_of s.told whole))) None whole s s lines
+unlined time due expects w s lines whole none =
     subst (λ (l : Option Lined). DoneOnLine l None whole s s lines) (sym none) (record { answers = refl; lines = tt; ahead = tt; heard = tt })
 
-no-key : (time n : ℕ) (lines : List (LineOf Peer)) (ahead : Ahead) → slice_get lines (suc n) ≡ None → lined time (want.LineKey n) lines ahead ≡ None
+no-key : (time n : ℕ) (due : Option ℕ) (expects : ExpectTable) (lines : List (LineOf Peer)) (ahead : Ahead) → slice_get lines (suc n) ≡ None → lined (want.LineKey n) (around_at time due expects lines ahead) ≡ None
 unfolding lined
-no-key time n lines ahead none = ap (option_map (λ line. lined_by (suc n) lines (polled time line ahead))) none
+no-key time n due expects lines ahead none = ap (option_map (λ line. lined_by (suc n) (around_at time due expects lines ahead) (polled time line ahead))) none
 
-no-put : (time n byte : ℕ) (lines : List (LineOf Peer)) (ahead : Ahead) → slice_get lines (suc n) ≡ None → lined time (want.LinePut n byte) lines ahead ≡ None
+no-put : (time n byte : ℕ) (due : Option ℕ) (expects : ExpectTable) (lines : List (LineOf Peer)) (ahead : Ahead) → slice_get lines (suc n) ≡ None → lined (want.LinePut n byte) (around_at time due expects lines ahead) ≡ None
 unfolding lined
-no-put time n byte lines ahead none =
-    ap (option_map (λ (line : LineOf Peer). record { got = put_got line; sent = []; lines = slice_set lines (suc n) (put_line byte line); ahead = ahead })) none
+no-put time n byte due expects lines ahead none =
+    ap (option_map (λ (line : LineOf Peer). put_by (suc n) byte (around_at time due expects lines ahead) line)) none
 
-pub done-no-key : (time n : ℕ) (s : LineState) (lines : List (LineOf ℕ)) (whole : List Answer) → slice_get lines (suc n) ≡ None
-    → DoneOnLine (lined time (want.LineKey n) (map (seen_line s) lines) (ahead_of s.told whole)) None whole s s lines
-done-no-key time n s lines whole none =
-    unlined time (want.LineKey n) s lines whole (no-key time n (map (seen_line s) lines) (ahead_of s.told whole) (seen-at s lines (suc n) None none))
+pub done-no-key : (time n : ℕ) (due : Option ℕ) (expects : ExpectTable) (s : LineState) (lines : List (LineOf ℕ)) (whole : List Answer) → slice_get lines (suc n) ≡ None
+    → DoneOnLine (lined (want.LineKey n) (around_at time due expects (map (seen_line s) lines) (ahead_of s.told whole))) None whole s s lines
+done-no-key time n due expects s lines whole none =
+    unlined time due expects (want.LineKey n) s lines whole (no-key time n due expects (map (seen_line s) lines) (ahead_of s.told whole) (seen-at s lines (suc n) None none))
 
-pub done-no-put : (time n byte : ℕ) (s : LineState) (lines : List (LineOf ℕ)) (whole : List Answer) → slice_get lines (suc n) ≡ None
-    → DoneOnLine (lined time (want.LinePut n byte) (map (seen_line s) lines) (ahead_of s.told whole)) None whole s s lines
-done-no-put time n byte s lines whole none =
-    unlined time (want.LinePut n byte) s lines whole (no-put time n byte (map (seen_line s) lines) (ahead_of s.told whole) (seen-at s lines (suc n) None none))
+pub done-no-put : (time n byte : ℕ) (due : Option ℕ) (expects : ExpectTable) (s : LineState) (lines : List (LineOf ℕ)) (whole : List Answer) → slice_get lines (suc n) ≡ None
+    → DoneOnLine (lined (want.LinePut n byte) (around_at time due expects (map (seen_line s) lines) (ahead_of s.told whole))) None whole s s lines
+done-no-put time n byte due expects s lines whole none =
+    unlined time due expects (want.LinePut n byte) s lines whole (no-put time n byte due expects (map (seen_line s) lines) (ahead_of s.told whole) (seen-at s lines (suc n) None none))
 
--- wants that are for no line
+-- wants that can be for a line
 abbrev pub IsOnLine : Want → Type 0
 IsOnLine (want.LineKey n) = Unit {0}
 IsOnLine (want.LinePut n byte) = Unit {0}
+IsOnLine want.Key = Unit {0}
+IsOnLine (want.Console byte) = Unit {0}
 IsOnLine other = ⊥
 
-plain-want : (time : ℕ) (w : Want) (lines : List (LineOf Peer)) (ahead : Ahead) → (¬ IsOnLine w) → lined time w lines ahead ≡ None
+plain-want : (time : ℕ) (due : Option ℕ) (expects : ExpectTable) (w : Want) (lines : List (LineOf Peer)) (ahead : Ahead) → (¬ IsOnLine w) → lined w (around_at time due expects lines ahead) ≡ None
 unfolding lined
-plain-want time (want.LineKey n) lines ahead plain = absurd (plain tt)
-plain-want time (want.LinePut n byte) lines ahead plain = absurd (plain tt)
-plain-want time w lines ahead plain = refl
+plain-want time due expects (want.LineKey n) lines ahead plain = absurd (plain tt)
+plain-want time due expects (want.LinePut n byte) lines ahead plain = absurd (plain tt)
+plain-want time due expects want.Key lines ahead plain = absurd (plain tt)
+plain-want time due expects (want.Console byte) lines ahead plain = absurd (plain tt)
+plain-want time due expects w lines ahead plain = refl
 
-pub done-plain : (time : ℕ) (w : Want) (s : LineState) (lines : List (LineOf ℕ)) (whole : List Answer) → (¬ IsOnLine w)
-    → DoneOnLine (lined time w (map (seen_line s) lines) (ahead_of s.told whole)) None whole s s lines
-done-plain time w s lines whole plain = unlined time w s lines whole (plain-want time w (map (seen_line s) lines) (ahead_of s.told whole) plain)
+pub done-plain : (time : ℕ) (due : Option ℕ) (expects : ExpectTable) (w : Want) (s : LineState) (lines : List (LineOf ℕ)) (whole : List Answer) → (¬ IsOnLine w)
+    → DoneOnLine (lined w (around_at time due expects (map (seen_line s) lines) (ahead_of s.told whole))) None whole s s lines
+done-plain time due expects w s lines whole plain = unlined time due expects w s lines whole (plain-want time due expects w (map (seen_line s) lines) (ahead_of s.told whole) plain)
 
 -- the key of a poll
-key-lined : (time n : ℕ) (s : LineState) (lines : List (LineOf ℕ)) (line : LineOf ℕ) (whole : List Answer) → slice_get lines (suc n) ≡ Some line
-    → lined time (want.LineKey n) (map (seen_line s) lines) (ahead_of s.told whole)
-    ≡ Some (lined_by (suc n) (map (seen_line s) lines) (polled time (seen_line s line) (ahead_of s.told whole)))
+key-lined : (time n : ℕ) (due : Option ℕ) (expects : ExpectTable) (s : LineState) (lines : List (LineOf ℕ)) (line : LineOf ℕ) (whole : List Answer) → slice_get lines (suc n) ≡ Some line
+    → lined (want.LineKey n) (around_at time due expects (map (seen_line s) lines) (ahead_of s.told whole))
+    ≡ Some (lined_by (suc n) (around_at time due expects (map (seen_line s) lines) (ahead_of s.told whole)) (polled time (seen_line s line) (ahead_of s.told whole)))
 unfolding lined
-key-lined time n s lines line whole there =
-    ap (option_map (λ line. lined_by (suc n) (map (seen_line s) lines) (polled time line (ahead_of s.told whole)))) (seen-at s lines (suc n) (Some line) there)
+key-lined time n due expects s lines line whole there =
+    ap (option_map (λ line. lined_by (suc n) (around_at time due expects (map (seen_line s) lines) (ahead_of s.told whole)) (polled time line (ahead_of s.told whole)))) (seen-at s lines (suc n) (Some line) there)
 
-pub done-key : (time n : ℕ) (old new : LineState) (lines : List (LineOf ℕ)) (before after : LineOf ℕ) (key : Option ℕ) (whole : List Answer)
+pub done-key : (time n : ℕ) (due : Option ℕ) (expects : ExpectTable) (old new : LineState) (lines : List (LineOf ℕ)) (before after : LineOf ℕ) (key : Option ℕ) (whole : List Answer)
     → slice_get lines (suc n) ≡ Some before → AreApart old lines → Polls time key old before new after → KeepsParties old before new after
     → IsFirst (record_in new.told) whole
-    → DoneOnLine (lined time (want.LineKey n) (map (seen_line old) lines) (ahead_of old.told whole)) (Some (got_of_line key)) whole old new (slice_set lines (suc n) after)
-done-key time n old new lines before after key whole there apart polls keeps first =
+    → DoneOnLine (lined (want.LineKey n) (around_at time due expects (map (seen_line old) lines) (ahead_of old.told whole))) (Some (got_of_line key)) whole old new (slice_set lines (suc n) after)
+done-key time n due expects old new lines before after key whole there apart polls keeps first =
     let one = stand_apart (suc n) old new lines before after there apart keeps in
     let p = polled time (seen_line old before) (ahead_of old.told whole) in
-    subst (λ (l : Option Lined). DoneOnLine l (Some (got_of_line key)) whole old new (slice_set lines (suc n) after)) (sym (key-lined time n old lines before whole there))
+    subst (λ (l : Option Lined). DoneOnLine l (Some (got_of_line key)) whole old new (slice_set lines (suc n) after)) (sym (key-lined time n due expects old lines before whole there))
     (record {
       answers = ap (λ (k : Option ℕ). Some (got_of_line k)) (sym (polls.key_is whole first));
       lines = ap (slice_set (map (seen_line old) lines) (suc n)) (polls.line_is whole first) ∙ sym one.seen;
@@ -251,16 +256,16 @@ poll-nobody : (time : ℕ) (ahead : Ahead) → polled time (unconnected None) ah
 unfolding polled accepted received sent
 poll-nobody time ahead = refl
 
-pub done-nobody : (time n : ℕ) (s : LineState) (lines : List (LineOf ℕ)) (line : LineOf ℕ) (whole : List Answer)
+pub done-nobody : (time n : ℕ) (due : Option ℕ) (expects : ExpectTable) (s : LineState) (lines : List (LineOf ℕ)) (line : LineOf ℕ) (whole : List Answer)
     → slice_get lines (suc n) ≡ Some line → line ≡ unconnected None
-    → DoneOnLine (lined time (want.LineKey n) (map (seen_line s) lines) (ahead_of s.told whole)) (Some got.NoKey) whole s s lines
-done-nobody time n s lines line whole there nobody =
+    → DoneOnLine (lined (want.LineKey n) (around_at time due expects (map (seen_line s) lines) (ahead_of s.told whole))) (Some got.NoKey) whole s s lines
+done-nobody time n due expects s lines line whole there nobody =
     let ahead = ahead_of s.told whole in
     let at = map (seen_line s) lines in
     let poll : polled time (seen_line s line) ahead ≡ record { key = None; sent = []; line = unconnected None; ahead = ahead } =
     ap (λ (l : LineOf ℕ). polled time (seen_line s l) ahead) nobody ∙ poll-nobody time ahead in
-    let is : lined time (want.LineKey n) at ahead ≡ Some (record { got = got.NoKey; sent = []; lines = slice_set at (suc n) (unconnected None); ahead = ahead }) =
-    key-lined time n s lines line whole there ∙ ap (λ (p : Polled). Some (lined_by (suc n) at p)) poll in
+    let is : lined (want.LineKey n) (around_at time due expects at ahead) ≡ Some (record { got = got.NoKey; sent = []; lines = slice_set at (suc n) (unconnected None); ahead = ahead; stop = None; expects = expects }) =
+    key-lined time n due expects s lines line whole there ∙ ap (λ (p : Polled). Some (lined_by (suc n) (around_at time due expects at ahead) p)) poll in
     subst (λ (l : Option Lined). DoneOnLine l (Some got.NoKey) whole s s lines) (sym is)
     (record {
       answers = refl;
@@ -272,7 +277,7 @@ done-nobody time n s lines line whole there nobody =
     })
 
 -- a byte for a line, by its number and by who is behind it
-put-seen-parts : (s : LineState) (byte : ℕ) (port connection : Option ℕ) (keys output : List ℕ) (rest : Rest)
+pub put-seen-parts : (s : LineState) (byte : ℕ) (port connection : Option ℕ) (keys output : List ℕ) (rest : Rest)
     → (put_line byte (seen_line s (line_of port connection keys output rest)) ≡ seen_line s (put_line byte (line_of port connection keys output rest)))
     × (put_got (seen_line s (line_of port connection keys output rest)) ≡ put_got (line_of port connection keys output rest))
 put-seen-parts s byte port None keys output rest = (refl, refl)
@@ -320,7 +325,7 @@ put-others s byte line = record {
   later = omega arith;
 }
 
-seen-put : (s : LineState) (byte n : ℕ) (line : LineOf ℕ) (lines : List (LineOf ℕ)) → slice_get lines n ≡ Some line
+pub seen-put : (s : LineState) (byte n : ℕ) (line : LineOf ℕ) (lines : List (LineOf ℕ)) → slice_get lines n ≡ Some line
     → slice_set (map (seen_line s) lines) n (put_line byte (seen_line s line)) ≡ map (seen_line s) (slice_set lines n (put_line byte line))
 seen-put s byte n line lines there =
     ap (slice_set (map (seen_line s) lines) n) (put-seen-parts s byte line.port line.connection line.keys line.output line.rest).0
@@ -331,23 +336,18 @@ seen-put s byte n line lines there =
     set-map s zero (k ∷ ls) l = refl
     set-map s (suc i) (k ∷ ls) l = ap (λ (rest : List (LineOf Peer)). seen_line s k ∷ rest) (set-map s i ls l)
 
-put-lined : (time n byte : ℕ) (s : LineState) (lines : List (LineOf ℕ)) (line : LineOf ℕ) (whole : List Answer) → slice_get lines (suc n) ≡ Some line
-    → lined time (want.LinePut n byte) (map (seen_line s) lines) (ahead_of s.told whole)
-    ≡ Some (record {
-      got = put_got (seen_line s line);
-      sent = [];
-      lines = slice_set (map (seen_line s) lines) (suc n) (put_line byte (seen_line s line));
-      ahead = ahead_of s.told whole;
-    })
+put-lined : (time n byte : ℕ) (due : Option ℕ) (expects : ExpectTable) (s : LineState) (lines : List (LineOf ℕ)) (line : LineOf ℕ) (whole : List Answer) → slice_get lines (suc n) ≡ Some line
+    → lined (want.LinePut n byte) (around_at time due expects (map (seen_line s) lines) (ahead_of s.told whole))
+    ≡ Some (put_by (suc n) byte (around_at time due expects (map (seen_line s) lines) (ahead_of s.told whole)) (seen_line s line))
 unfolding lined
-put-lined time n byte s lines line whole there =
-    ap (option_map (λ (l : LineOf Peer). record { got = put_got l; sent = []; lines = slice_set (map (seen_line s) lines) (suc n) (put_line byte l); ahead = ahead_of s.told whole }))
+put-lined time n byte due expects s lines line whole there =
+    ap (option_map (put_by (suc n) byte (around_at time due expects (map (seen_line s) lines) (ahead_of s.told whole))))
     (seen-at s lines (suc n) (Some line) there)
 
-pub done-put : (time n byte : ℕ) (s : LineState) (lines : List (LineOf ℕ)) (line : LineOf ℕ) (whole : List Answer) → slice_get lines (suc n) ≡ Some line
-    → DoneOnLine (lined time (want.LinePut n byte) (map (seen_line s) lines) (ahead_of s.told whole)) (Some (put_got line)) whole s s (slice_set lines (suc n) (put_line byte line))
-done-put time n byte s lines line whole there =
-    subst (λ (l : Option Lined). DoneOnLine l (Some (put_got line)) whole s s (slice_set lines (suc n) (put_line byte line))) (sym (put-lined time n byte s lines line whole there))
+pub done-put : (time n byte : ℕ) (due : Option ℕ) (expects : ExpectTable) (s : LineState) (lines : List (LineOf ℕ)) (line : LineOf ℕ) (whole : List Answer) → slice_get lines (suc n) ≡ Some line
+    → DoneOnLine (lined (want.LinePut n byte) (around_at time due expects (map (seen_line s) lines) (ahead_of s.told whole))) (Some (put_got line)) whole s s (slice_set lines (suc n) (put_line byte line))
+done-put time n byte due expects s lines line whole there =
+    subst (λ (l : Option Lined). DoneOnLine l (Some (put_got line)) whole s s (slice_set lines (suc n) (put_line byte line))) (sym (put-lined time n byte due expects s lines line whole there))
     (record {
       answers = ap Some (sym (put-seen-parts s byte line.port line.connection line.keys line.output line.rest).1);
       lines = seen-put s byte (suc n) line lines there;
@@ -361,22 +361,22 @@ put-nobody byte line nobody =
     ap (λ (o : Option ℕ). if is_some o && nat_le full_output (length line.output) then line else (if is_some o then record line { output = line.output ++ coded (byte ∷ []) } else line)) nobody
 
 -- a poll, told or of a line without a port
-pub done-poll : (tells : Bool) (time n : ℕ) (old new : LineState) (lines : List (LineOf ℕ)) (before after : LineOf ℕ) (key : Option ℕ) (whole : List Answer)
+pub done-poll : (tells : Bool) (time n : ℕ) (due : Option ℕ) (expects : ExpectTable) (old new : LineState) (lines : List (LineOf ℕ)) (before after : LineOf ℕ) (key : Option ℕ) (whole : List Answer)
     → StepsAt tells (suc n) old lines before new after → (IsTrue tells → Polls time key old before new after)
     → (before.port ≡ None → (key ≡ None) × (after ≡ unconnected None)) → AreLinesTold tells old lines → IsFirst (record_in new.told) whole
-    → DoneOnLine (lined time (want.LineKey n) (map (seen_line old) lines) (ahead_of old.told whole)) (Some (got_of_line key)) whole old new (slice_set lines (suc n) after)
-done-poll tells time n old new lines before after key whole step polls nobody told first = elim told [
-  | inl apart ↦ done-key time n old new lines before after key whole step.here apart.1 (polls apart.0) (step.parties apart.0) first
+    → DoneOnLine (lined (want.LineKey n) (around_at time due expects (map (seen_line old) lines) (ahead_of old.told whole))) (Some (got_of_line key)) whole old new (slice_set lines (suc n) after)
+done-poll tells time n due expects old new lines before after key whole step polls nobody told first = elim told [
+  | inl apart ↦ done-key time n due expects old new lines before after key whole step.here apart.1 (polls apart.0) (step.parties apart.0) first
   | inr none ↦
       let portless = no-port-at (suc n) lines before step.here none in
       let still = step.idle portless in
       let quiet = nobody portless in
       let alone : before ≡ unconnected None = sym still.1 ∙ quiet.1 in
-      let at : DoneOnLine (lined time (want.LineKey n) (map (seen_line old) lines) (ahead_of old.told whole)) (Some got.NoKey) whole old old lines =
-      done-nobody time n old lines before whole step.here alone in
-      let K : Option ℕ → Type 0 = λ k. DoneOnLine (lined time (want.LineKey n) (map (seen_line old) lines) (ahead_of old.told whole)) (Some (got_of_line k)) whole old old lines in
-      let S : LineState → Type 0 = λ x. DoneOnLine (lined time (want.LineKey n) (map (seen_line old) lines) (ahead_of old.told whole)) (Some (got_of_line key)) whole old x lines in
-      let L : List (LineOf ℕ) → Type 0 = λ x. DoneOnLine (lined time (want.LineKey n) (map (seen_line old) lines) (ahead_of old.told whole)) (Some (got_of_line key)) whole old new x in
+      let at : DoneOnLine (lined (want.LineKey n) (around_at time due expects (map (seen_line old) lines) (ahead_of old.told whole))) (Some got.NoKey) whole old old lines =
+      done-nobody time n due expects old lines before whole step.here alone in
+      let K : Option ℕ → Type 0 = λ k. DoneOnLine (lined (want.LineKey n) (around_at time due expects (map (seen_line old) lines) (ahead_of old.told whole))) (Some (got_of_line k)) whole old old lines in
+      let S : LineState → Type 0 = λ x. DoneOnLine (lined (want.LineKey n) (around_at time due expects (map (seen_line old) lines) (ahead_of old.told whole))) (Some (got_of_line key)) whole old x lines in
+      let L : List (LineOf ℕ) → Type 0 = λ x. DoneOnLine (lined (want.LineKey n) (around_at time due expects (map (seen_line old) lines) (ahead_of old.told whole))) (Some (got_of_line key)) whole old new x in
       subst L (sym (ap (slice_set lines (suc n)) still.1 ∙ set-same (suc n) lines before step.here)) (subst S (sym still.0) (subst K (sym quiet.0) at))
 ]
 

@@ -24,13 +24,14 @@ use Rattle.unit_list.specs.Bus.{unit_at, row_or_nothing, row_at, after_at}
 use Rattle.unit_files.specs.Acts.{Failure}
 use Rattle.unit_files.specs.Attachments.{attachment_at}
 use Rattle.expect_actions.specs.Sends.{Send, due_send, sends_left}
-use Rattle.nova_machine.specs.Machine.{MachineState, place_of}
+use Rattle.nova_machine.specs.Machine.{MachineState, console_place, place_of}
 use Rattle.nova_machine.specs.Seen.{Seen, with_machine, attached_in}
 use Rattle.nova_machine.specs.Parts.{Part, silent, behind_made}
 use Rattle.nova_machine.specs.Turned.{Turned, goes_on, still}
 use Rattle.nova_machine.specs.Wants.{answer_to, own_stop, prints, watch_after, files_after, typed_key, first_key, stop_by}
 use Rattle.nova_machine.specs.OnLines.{Lined, lined, lined_by}
-use Rattle.nova_machine.specs.Service.{asked, answered, hosted, own_service, line_service, service_by, lined_at, service, replied, done_for, key_at, sent_at, typed_at, want_at}
+use Rattle.nova_machine.proofs.ConsoleSteps.{closed-none, key-off}
+use Rattle.nova_machine.specs.Service.{around, asked, answered, hosted, own_service, line_service, service_by, lined_at, service, replied, done_for, key_at, sent_at, typed_at, want_at}
 use Rattle.nova_machine.specs.Looks.{keyboard, keyless_wish, IsKeyed, IsUnheard, LooksEach, LooksChangeNothing}
 use Rattle.nova_machine.proofs.EachService.{service-own}
 
@@ -156,14 +157,13 @@ own-is : (fault : Option Failure) (s : Seen) → own_service fault keyboard s �
 unfolding own_service hosted look-of
 own-is fault s = refl
 
--- the console's keyboard wants nothing of a line
-unlined : (s : Seen) → want_at keyboard s.machine ≡ want.Key → lined_at keyboard s ≡ None
-unfolding lined
-unlined s is = ap (λ (w : Want). lined s.machine.time w s.lines s.ahead) is
+-- the console's keyboard wants nothing of a line, where the console line has no port
+unlined : (s : Seen) → want_at keyboard s.machine ≡ want.Key → slice_get s.lines console_place ≡ Some (unconnected None) → lined_at keyboard s ≡ None
+unlined s is closed = ap (λ (w : Want). lined w (around s)) is ∙ key-off s.machine.time (key_at s) s.watch.expects s.lines s.ahead (closed-none s.lines closed)
 
-service-is : (fault : Option Failure) (s : Seen) → want_at keyboard s.machine ≡ want.Key
+service-is : (fault : Option Failure) (s : Seen) → want_at keyboard s.machine ≡ want.Key → slice_get s.lines console_place ≡ Some (unconnected None)
     → service fault keyboard s ≡ look-of fault s (want_at keyboard s.machine) (sent_at s) (typed_at s)
-service-is fault s is = service-own fault keyboard s (unlined s is) ∙ own-is fault s
+service-is fault s is closed = service-own fault keyboard s (unlined s is closed) ∙ own-is fault s
 
 -- what is left where nothing is sent or typed
 unlooked : (fault : Option Failure) (s : Seen) → sends_left s.machine.time s.watch.sends ≡ s.watch.sends
@@ -193,10 +193,10 @@ answered-same k keyed m there =
     ∙ ap (λ (stop : UnitStop). record { machine = behind_look k m; stop = stop_by (keyboard_of k) stop }) (goes-on k keyed m.units there)
 
 pub looks-change-nothing : LooksChangeNothing
-looks-change-nothing fault s there none =
+looks-change-nothing fault s there closed none =
     let m = s.machine in
     let both = first-none (sent_at s) (typed_at s) none in
-    service-is fault s (wants-key Tti tt m.units there)
+    service-is fault s (wants-key Tti tt m.units there) closed
     ∙ ap (λ (w : Want). look-of fault s w (sent_at s) (typed_at s)) (wants-key Tti tt m.units there)
     ∙ ap (λ (k : Option ℕ). look-of fault s want.Key k (typed_at s)) both.0
     ∙ ap (λ (k : Option ℕ). look-of fault s want.Key None k) both.1
@@ -213,18 +213,18 @@ set-same {A} (w ∷ y ∷ xs) x is = let same : y ≡ x = grind arith in ap (λ 
 
 -- nothing is done on such a line
 closed-lined : (s : Seen) → want_at (keyboard_of Tti1) s.machine ≡ want.LineKey 0 → slice_get s.lines (place_of 0) ≡ Some (unconnected None)
-    → lined_at (keyboard_of Tti1) s ≡ Some (record { got = NoKey; sent = []; lines = s.lines; ahead = s.ahead })
+    → lined_at (keyboard_of Tti1) s ≡ Some (record { got = NoKey; sent = []; lines = s.lines; ahead = s.ahead; stop = None; expects = s.watch.expects })
 unfolding lined polled accepted received sent
 closed-lined s wants closed =
-    ap (λ (w : Want). lined s.machine.time w s.lines s.ahead) wants
-    ∙ ap (λ (o : Option (LineOf Peer)). option_map (λ line. lined_by (place_of 0) s.lines (polled s.machine.time line s.ahead)) o) closed
-    ∙ ap (λ (lines : List (LineOf Peer)). Some (record { got = NoKey; sent = []; lines = lines; ahead = s.ahead })) (set-same s.lines (unconnected None) closed)
+    ap (λ (w : Want). lined w (around s)) wants
+    ∙ ap (λ (o : Option (LineOf Peer)). option_map (λ line. lined_by (place_of 0) (around s) (polled s.machine.time line s.ahead)) o) closed
+    ∙ ap (λ (lines : List (LineOf Peer)). Some (record { got = NoKey; sent = []; lines = lines; ahead = s.ahead; stop = None; expects = s.watch.expects })) (set-same s.lines (unconnected None) closed)
 
 service-line : (fault : Option Failure) (u : UnitName) (s : Seen) (l : Lined) → lined_at u s ≡ Some l → service fault u s ≡ line_service u l s
 unfolding service
 service-line fault u s l is = ap (λ (o : Option Lined). service_by o fault u s) is
 
-closed-service : (s : Seen) → line_service (keyboard_of Tti1) (record { got = NoKey; sent = []; lines = s.lines; ahead = s.ahead }) s
+closed-service : (s : Seen) → line_service (keyboard_of Tti1) (record { got = NoKey; sent = []; lines = s.lines; ahead = s.ahead; stop = None; expects = s.watch.expects }) s
     ≡ still s (answered (keyboard_of Tti1) NoKey (asked (keyboard_of Tti1) s.machine))
 unfolding line_service
 closed-service s = refl
@@ -247,7 +247,7 @@ asked_for u period m = record m { events = activated u period m.events }
 kind-look : (fault : Option Failure) (period : ℕ) (s : Seen) (k : Kind) → IsUnheard k s.lines → keyless_wish (keyboard_of k) s.machine.units ≡ After period → key_at s ≡ None
     → service fault (keyboard_of k) s ≡ silent None (with_machine s (asked_for (keyboard_of k) period s.machine))
 kind-look fault period s Tti unheard wish none =
-    looks-change-nothing fault s (wish-there Tti s.machine.units period wish) none
+    looks-change-nothing fault s (wish-there Tti s.machine.units period wish) unheard none
     ∙ ap (λ (q : Queue). silent None (with_machine s (record s.machine { events = wished keyboard q s.machine.events }))) wish
 kind-look fault period s Tti1 unheard wish none =
     second-look fault s (wish-there Tti1 s.machine.units period wish) unheard

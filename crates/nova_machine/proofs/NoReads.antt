@@ -51,7 +51,7 @@ unfolding line_service
 line-reads u l s =
     let made = sends {S = Seen} l.sent in
     let none = sends-reads l.sent in
-    reads_of-append made _ ∙ ap (λ (n : ℕ). reads_of made + n) (replied-reads u None (Ok l.got) (behind_line u l s)) ∙ omega (arith, none)
+    reads_of-append made _ ∙ ap (λ (n : ℕ). reads_of made + n) (replied-reads u l.stop (Ok l.got) (behind_line u l s)) ∙ omega (arith, none)
 
 service-reads : (fault : Option Failure) (u : UnitName) (s : Seen) → reads_of (service fault u s).made ≡ 0
 service-reads fault u s = each-service (λ p. reads_of p.made ≡ 0) fault u s (own-reads fault u s) (λ l is. line-reads u l s)

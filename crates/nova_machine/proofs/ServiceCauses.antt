@@ -1,5 +1,5 @@
 -- Why a service stops, and what it makes of the watch tables.
-use Rattle.std.proofs.Common.{◌≡◌, ◌≢◌, ℕ, zero, suc, ◌+◌, ◌<◌, ◌≤◌, ◌==◌, Bool, true, false, IsTrue, List, [], ◌∷◌, ◌++◌, Option, Some, None, Ok, nat_lt, option_map, option_and_then, slice_index, slice_get, refl, ap, sym, subst, ◌∙◌, arith, nat_le, if◌then◌else◌}
+use Rattle.std.proofs.Common.{inl, ◌≡◌, ◌≢◌, ℕ, zero, suc, ◌+◌, ◌<◌, ◌≤◌, ◌==◌, Bool, true, false, IsTrue, List, [], ◌∷◌, ◌++◌, Option, Some, None, Ok, nat_lt, option_map, option_and_then, slice_index, slice_get, refl, ap, sym, subst, ◌∙◌, arith, nat_le, if◌then◌else◌}
 use Rattle.std.specs.Prelude.{IfSome}
 use Rattle.std.proofs.lemmas.Bool.Decides.{nat_tests}
 use Rattle.unit_trait.specs.declared.kind.Kind.{Kind}
@@ -45,13 +45,15 @@ use Rattle.nova_machine.specs.declared.service.Hosted.TheVariants.{Gets, Matched
 use Rattle.nova_machine.specs.declared.service.Hosted.TheVariants as hosted
 use Rattle.nova_machine.specs.Machine.{MachineState}
 use Rattle.nova_machine.specs.Seen.{attached_in}
-use Rattle.nova_machine.specs.OnLines.{IsOfLine}
+use Rattle.nova_machine.specs.OnLines.{IsOfLine, is_ported}
 use Rattle.nova_machine.specs.Service.{want_at, asked, answered}
 use Rattle.nova_machine.specs.Hosting.{CanBeHosted, hosted_of, bytes_printed, watch_behind}
 use Rattle.nova_machine.specs.Wants.{first_key, typed_key, wru, key_stop, own_stop, watch_after, taken_after, bytes_of, stop_by}
-use Rattle.nova_machine.specs.StopCauses.{IsThere, stop_ioe_number, StopsForFile, IsFull, IsAtFileEnd, IsWithoutFile, IsGotOf, IsPastRoom, IsMadeOf, Moment, moment_of, AreCountedDown, all_printed, NoneMatches, LastMatches, Matches, Watches, TookWru, ServiceCause}
+use Rattle.nova_machine.specs.StopCauses.{IsThere, stop_ioe_number, StopsForFile, IsFull, IsAtFileEnd, IsWithoutFile, IsGotOf, IsPastRoom, IsMadeOf, Moment, moment_of, AreCountedDown, console_bytes, all_printed, NoneMatches, LastMatches, Matches, Watches, TookWru, ServiceCause}
 use Rattle.memory_transfer.specs.Operated.{IsOfTape}
-use Rattle.nova_machine.proofs.Causes.{counted-same, IsNoMatch, matches-none}
+use Rattle.telnet_lines.specs.Line.{LineOf}
+use Rattle.nova_machine.specs.OnLine.{IsOffLine}
+use Rattle.nova_machine.proofs.Causes.{counted-same, IsNoMatch, matches-none, none-bytes}
 
 -- ---- a unit that stops has STOP_IOE on, and was told of an end, or that it has no file
 
@@ -409,14 +411,22 @@ never-back taken (Some key) want.Key = omega arith
 never-back taken None w = omega arith
 never-back taken (Some key) w = omega arith
 
+-- a byte is printed only where the console line has no port
+off-bytes : (w : Want) (made : Hosted) (ported : Bool) (due : Option ℕ) → IsOffLine w ported due → console_bytes ported (bytes_printed w made) ≡ bytes_printed w made
+off-bytes (want.Console byte) made ported due off = ap (λ (b : Bool). console_bytes b (bytes_printed (want.Console byte) made)) off
+off-bytes w (Stops stop) ported due off = none-bytes ported
+off-bytes w made ported due off = none-bytes ported
+
 pub made-watches : (stop : Option Stop) (w : Want) (made : Hosted) (time : ℕ) (typed : Option ℕ) (old new : Moment) (tells : Bool) (before after : List ℕ)
     → new.watch ≡ watch_behind time w made old.watch → new.taken ≡ taken_after old.taken typed w → Matches stop (bytes_printed w made) old.watch.expects
-    → (IsTrue tells → after ≡ before ++ bytes_printed w made) → Watches stop old new tells before after
-made-watches stop w made time typed old new tells before after watch_is taken_is matches written =
+    → (IsTrue tells → after ≡ before ++ bytes_printed w made) → console_bytes old.ported (bytes_printed w made) ≡ bytes_printed w made → new.ported ≡ old.ported
+    → Watches stop old new tells before after
+made-watches stop w made time typed old new tells before after watch_is taken_is matches written off ported =
     let leaves : Leaves (bytes_printed w made) old.watch new.watch = subst (λ (x : WatchState). Leaves (bytes_printed w made) old.watch x) (sym watch_is) (leaves-behind time w made old.watch) in
     record {
       bytes = bytes_printed w made;
-      written = written;
+      written = λ told. written told ∙ ap (λ (l : List ℕ). before ++ l) (sym off);
+      ported = ported;
       compared = leaves.compared;
       matches = matches;
       breaks = subst (λ (x : BreakTable). AreCountedDown old.watch.breaks.list x.list) (sym leaves.breaks) (counted-same old.watch.breaks.list);
@@ -446,10 +456,14 @@ wru-taken keys start watch m w expects is watch_is taken_is =
       waited = refl;
       taken = start.taken;
       later = omega arith;
-      key = key.1;
+      key = inl key.1;
       sends_now = ap (λ (x : WatchState). x.sends) (watch_is ∙ ap (λ (x : Want). watch_behind m.time x hosted.Wru start.watch) key.0);
       taken_now = taken_is ∙ ap (taken_after start.taken (typed_key (due_send m.time start.watch.sends) (due_key keys start.taken m.time))) key.0;
     }
+
+pub asked-ported : (u : UnitName) (m : MachineState) → is_ported (asked u m).lines ≡ is_ported m.lines
+unfolding asked
+asked-ported u m = refl
 
 pub asked-taken : (u : UnitName) (m : MachineState) → (asked u m).taken ≡ m.taken
 unfolding asked
@@ -469,14 +483,22 @@ pub record Hosts (keys : List (ℕ × ℕ)) (u : UnitName) (w : Want) (made : Ho
   pub watched : watch' ≡ watch_behind n.time w made watch
   pub made_is : IsMadeOf w u.kind (attachment_at (attached_in n) u) (first_key (due_send n.time watch.sends) (due_key keys n.taken n.time)) watch.expects made
 
+pub off-still : (keys : List (ℕ × ℕ)) (watch : WatchState) (w : Want) (n now : MachineState) → now ≡ n → IsOffLine w (is_ported n.lines) (first_key (due_send n.time watch.sends) (due_key keys n.taken n.time))
+    → IsOffLine w (is_ported now.lines) (first_key (due_send now.time watch.sends) (due_key keys now.taken now.time))
+off-still keys watch w n now same off =
+    subst (λ (x : MachineState). IsOffLine w (is_ported x.lines) (first_key (due_send x.time watch.sends) (due_key keys x.taken x.time))) (sym same) off
+
 pub hosts-watches : (keys : List (ℕ × ℕ)) (u : UnitName) (w : Want) (made : Hosted) (watch watch' : WatchState) (m n h now : MachineState) (stop : Option Stop) (tells : Bool) (before after : List ℕ)
-    → Hosts keys u w made watch watch' m n h now → StopsAs made stop → (IsTrue tells → after ≡ before ++ bytes_printed w made)
-    → Watches stop (moment_of watch m) (moment_of watch' now) tells before after
-hosts-watches keys u w made watch watch' m n h now stop tells before after x is written =
+    → Hosts keys u w made watch watch' m n h now → StopsAs made stop → (IsTrue tells → after ≡ before ++ bytes_printed w made) → now.lines ≡ n.lines
+    → IsOffLine w (is_ported n.lines) (first_key (due_send n.time watch.sends) (due_key keys n.taken n.time)) → Watches stop (moment_of watch m) (moment_of watch' now) tells before after
+hosts-watches keys u w made watch watch' m n h now stop tells before after x is written kept off =
     let same : n.taken ≡ m.taken = ap (λ (y : MachineState). y.taken) x.asked_is ∙ asked-taken u m in
     let typed = typed_key (due_send n.time watch.sends) (due_key keys n.taken n.time) in
+    let port : is_ported n.lines ≡ is_ported m.lines = ap (λ (y : MachineState). is_ported y.lines) x.asked_is ∙ asked-ported u m in
+    let due = first_key (due_send n.time watch.sends) (due_key keys n.taken n.time) in
     made-watches stop w made n.time typed (moment_of watch m) (moment_of watch' now) tells before after x.watched
     (x.kept ∙ x.taken ∙ ap (λ (k : ℕ). taken_after k typed w) same) (made-matches w u.kind (attachment_at (attached_in n) u) (first_key (due_send n.time watch.sends) (due_key keys n.taken n.time)) watch.expects made stop x.made_is is) written
+    (off-bytes w made (is_ported m.lines) due (subst (λ (b : Bool). IsOffLine w b due) port off)) (ap (λ (ls : List (LineOf ℕ)). is_ported ls) kept ∙ port)
 
 pub hosts-wru : (keys : List (ℕ × ℕ)) (u : UnitName) (w : Want) (watch watch' : WatchState) (m n h now : MachineState) → Hosts keys u w hosted.Wru watch watch' m n h now
     → TookWru keys (moment_of watch m) watch' now

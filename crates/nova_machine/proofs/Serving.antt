@@ -44,8 +44,11 @@ use Rattle.nova_machine.specs.Turned.{Turned, still}
 use Rattle.nova_machine.specs.Wants.{answer_to, files_after, watch_after, first_key, typed_key, own_stop, bytes_of, prints, IsConsole}
 use Rattle.nova_machine.specs.Service.{want_at, done_for, asked, answered, first_stop, stopping, replied, own_service, behind_line, line_service, service_by, lined_at, service, taken, services, serving}
 use Rattle.nova_machine.specs.Comes.{Output, Comes, IsBrokenOff}
-use Rattle.nova_machine.specs.LineChanges.{heard_with, DoneOnLine}
-use Rattle.nova_machine.specs.OnLines.{Lined, lined, sends}
+use Rattle.nova_machine.specs.LineChanges.{heard_with, DoneAs}
+use Rattle.expect_actions.specs.Expects.{ExpectTable}
+use Rattle.nova_machine.specs.declared.on_line.OnLine.{OnLine}
+use Rattle.nova_machine.specs.OnLines.{Lined, Around, around_at, lined, sends}
+use Rattle.nova_machine.specs.OnLine.{got_on, stop_on, expects_on}
 use Rattle.nova_machine.proofs.Hearing.{heard-nothing, heard-sends}
 use Rattle.nova_machine.proofs.Parts.{silent-comes, comes-behind, comes-then, comes-stopped}
 use Rattle.memory_transfer.specs.Tapes.{NoAnswer, FileFails, ImageIsBad}
@@ -449,39 +452,51 @@ sends-text : (sent : List Sent) → text_of (sends {S = Seen} sent) ≡ []
 sends-text [] = refl
 sends-text (s ∷ sent) = refl
 
--- the machine behind the answer, with its lines
-lined-answered : (u : UnitName) (watch : WatchState) (keys : List (ℕ × ℕ)) (files : List NamedBytes) (old new : LineState) (whole : List Answer) (m : MachineState) (ls : List (LineOf ℕ)) (l : Lined)
-    → l.lines ≡ map (seen_line new) ls → l.ahead ≡ ahead_of new.told whole
-    → replied u None (Ok l.got) (behind_line u l (seen (beside watch keys files old) whole m))
-    ≡ silent (answered u l.got (record (asked u m) { lines = ls })).stop (seen (beside watch keys files new) whole (answered u l.got (record (asked u m) { lines = ls })).machine)
-unfolding answered asked
-lined-answered u watch keys files old new whole m ls l lines ahead =
-    let t = answered u l.got (asked u (erased m)) in
-    ap (λ (x : List (LineOf Peer)). silent t.stop (record { machine = t.machine; watch = watch; keys = keys; files = files; lines = x; ahead = l.ahead })) lines
-    ∙ ap (λ (x : Ahead). silent t.stop (record { machine = t.machine; watch = watch; keys = keys; files = files; lines = map (seen_line new) ls; ahead = x })) ahead
+-- the key that is due for the console, and what stands around a want of that machine
+abbrev pub due_of : WatchState → List (ℕ × ℕ) → MachineState → Option ℕ
+due_of watch keys m = first_key (due_send m.time watch.sends) (due_key keys m.taken m.time)
 
-line-is : (u : UnitName) (l : Lined) (s : Seen) → line_service u l s ≡ behind_made (sends l.sent) (replied u None (Ok l.got) (behind_line u l s))
+abbrev pub around_of : WatchState → List (ℕ × ℕ) → LineState → List Answer → MachineState → Around
+around_of watch keys s whole m =
+    around_at m.time (first_key (due_send m.time watch.sends) (due_key keys m.taken m.time)) watch.expects (map (seen_line s) m.lines) (ahead_of s.told whole)
+
+-- the machine behind the answer, with its lines
+lined-answered : (u : UnitName) (watch watch' : WatchState) (keys : List (ℕ × ℕ)) (files : List NamedBytes) (old new : LineState) (whole : List Answer) (m : MachineState) (ls : List (LineOf ℕ)) (l : Lined)
+    → watch' ≡ record watch { expects = l.expects } → l.lines ≡ map (seen_line new) ls → l.ahead ≡ ahead_of new.told whole
+    → replied u l.stop (Ok l.got) (behind_line u l (seen (beside watch keys files old) whole m))
+    ≡ silent (first_stop l.stop (answered u l.got (record (asked u m) { lines = ls })).stop) (seen (beside watch' keys files new) whole (answered u l.got (record (asked u m) { lines = ls })).machine)
+unfolding answered asked
+lined-answered u watch watch' keys files old new whole m ls l watched lines ahead =
+    let t = answered u l.got (asked u (erased m)) in
+    let stop = first_stop l.stop t.stop in
+    let w = record watch { expects = l.expects } in
+    ap (λ (x : List (LineOf Peer)). silent stop (record { machine = t.machine; watch = w; keys = keys; files = files; lines = x; ahead = l.ahead })) lines
+    ∙ ap (λ (x : Ahead). silent stop (record { machine = t.machine; watch = w; keys = keys; files = files; lines = map (seen_line new) ls; ahead = x })) ahead
+    ∙ ap (λ (x : WatchState). silent stop (record { machine = t.machine; watch = x; keys = keys; files = files; lines = map (seen_line new) ls; ahead = ahead_of new.told whole })) (sym watched)
+
+line-is : (u : UnitName) (l : Lined) (s : Seen) → line_service u l s ≡ behind_made (sends l.sent) (replied u l.stop (Ok l.got) (behind_line u l s))
 unfolding line_service
 line-is u l s = refl
 
-pub comes-lined : (fault : Option Failure) (u : UnitName) (watch : WatchState) (keys : List (ℕ × ℕ)) (files : List NamedBytes) (old new : LineState) (whole : List Answer) (m h last : MachineState) (l : Lined)
+pub comes-lined : (fault : Option Failure) (u : UnitName) (watch watch' : WatchState) (keys : List (ℕ × ℕ)) (files : List NamedBytes) (old new : LineState) (whole : List Answer) (m h last : MachineState) (l : Lined)
     (r : Option Stop) (tells : Bool) (b a : Output)
-    → lined m.time (want_at u m) (map (seen_line old) m.lines) (ahead_of old.told whole) ≡ Some l → l.lines ≡ map (seen_line new) h.lines → l.ahead ≡ ahead_of new.told whole
+    → lined (want_at u m) (around_of watch keys old whole m) ≡ Some l → watch' ≡ record watch { expects = l.expects } → l.lines ≡ map (seen_line new) h.lines → l.ahead ≡ ahead_of new.told whole
     → a.heard ≡ heard_more b.heard l.sent → (IsTrue tells → a.console ≡ b.console ++ []) → h ≡ record (asked u m) { lines = h.lines } → IsOwn r
-    → r ≡ (answered u l.got h).stop → last ≡ (answered u l.got h).machine
-    → Comes (service fault u (seen (beside watch keys files old) whole m)) r (seen (beside watch keys files new) whole last) tells b a
-comes-lined fault u watch keys files old new whole m h last l r tells b a there lines ahead heard printed is own stops left =
+    → r ≡ first_stop l.stop (answered u l.got h).stop → last ≡ (answered u l.got h).machine
+    → Comes (service fault u (seen (beside watch keys files old) whole m)) r (seen (beside watch' keys files new) whole last) tells b a
+comes-lined fault u watch watch' keys files old new whole m h last l r tells b a there watched lines ahead heard printed is own stops left =
     let s = seen (beside watch keys files old) whole m in
     let k : MachineState = record (asked u m) { lines = h.lines } in
     let t = answered u l.got k in
+    let stop = first_stop l.stop t.stop in
     let same : answered u l.got h ≡ t = ap (λ (x : MachineState). answered u l.got x) is in
-    let P : Part → Type 0 = λ p. Comes p r (seen (beside watch keys files new) whole last) tells b a in
-    subst P (sym (service-by fault u s (Some l) there ∙ line-is u l s ∙ ap (behind_made (sends l.sent)) (lined-answered u watch keys files old new whole m h.lines l lines ahead)))
-    (comes-behind (sends l.sent) (silent t.stop (seen (beside watch keys files new) whole t.machine)) r (seen (beside watch keys files new) whole last) tells b a a
+    let P : Part → Type 0 = λ p. Comes p r (seen (beside watch' keys files new) whole last) tells b a in
+    subst P (sym (service-by fault u s (Some l) there ∙ line-is u l s ∙ ap (behind_made (sends l.sent)) (lined-answered u watch watch' keys files old new whole m h.lines l watched lines ahead)))
+    (comes-behind (sends l.sent) (silent stop (seen (beside watch' keys files new) whole t.machine)) r (seen (beside watch' keys files new) whole last) tells b a a
     (λ told. printed told ∙ ap (λ (x : List ℕ). b.console ++ x) (sym (sends-text l.sent)))
     (heard ∙ heard-sends Seen b.heard l.sent)
-    (silent-comes t.stop r (seen (beside watch keys files new) whole t.machine) (seen (beside watch keys files new) whole last) tells a own
-    (stops ∙ ap (λ (x : Turned). x.stop) same) (ap (λ (x : MachineState). seen (beside watch keys files new) whole x) (left ∙ ap (λ (x : Turned). x.machine) same))))
+    (silent-comes stop r (seen (beside watch' keys files new) whole t.machine) (seen (beside watch' keys files new) whole last) tells a own
+    (stops ∙ ap (λ (x : Turned). first_stop l.stop x.stop) same) (ap (λ (x : MachineState). seen (beside watch' keys files new) whole x) (left ∙ ap (λ (x : Turned). x.machine) same))))
 
 -- ---- what was done on a line, of the machine before its unit was asked
 
@@ -489,46 +504,56 @@ pub asked-lines : (u : UnitName) (m : MachineState) → (asked u m).lines ≡ m.
 unfolding asked
 asked-lines u m = refl
 
-asked-lined : (u : UnitName) (m : MachineState) (s : LineState) (ahead : Ahead)
-    → lined (asked u m).time (want_at u m) (map (seen_line s) (asked u m).lines) ahead ≡ lined m.time (want_at u m) (map (seen_line s) m.lines) ahead
+asked-lined : (u : UnitName) (m : MachineState) (watch : WatchState) (keys : List (ℕ × ℕ)) (s : LineState) (whole : List Answer)
+    → lined (want_at u m) (around_of watch keys s whole (asked u m)) ≡ lined (want_at u m) (around_of watch keys s whole m)
 unfolding asked
-asked-lined u m s ahead = refl
+asked-lined u m watch keys s whole = refl
 
-lined-asked : (u : UnitName) (m n : MachineState) (w : Want) (s : LineState) (ahead : Ahead) → n ≡ asked u m → w ≡ want_at u m
-    → lined n.time w (map (seen_line s) n.lines) ahead ≡ lined m.time (want_at u m) (map (seen_line s) m.lines) ahead
-lined-asked u m n w s ahead asks wants =
-    ap (λ (x : MachineState). lined x.time w (map (seen_line s) x.lines) ahead) asks
-    ∙ ap (λ (x : Want). lined (asked u m).time x (map (seen_line s) (asked u m).lines) ahead) wants
-    ∙ asked-lined u m s ahead
+lined-asked : (u : UnitName) (m n : MachineState) (w : Want) (watch : WatchState) (keys : List (ℕ × ℕ)) (s : LineState) (whole : List Answer) → n ≡ asked u m → w ≡ want_at u m
+    → lined w (around_of watch keys s whole n) ≡ lined (want_at u m) (around_of watch keys s whole m)
+lined-asked u m n w watch keys s whole asks wants =
+    ap (λ (x : MachineState). lined w (around_of watch keys s whole x)) asks
+    ∙ ap (λ (x : Want). lined x (around_of watch keys s whole (asked u m))) wants
+    ∙ asked-lined u m watch keys s whole
 
 none-of : (o : Option Lined) → None ≡ option_map (λ (x : Lined). x.got) o → o ≡ None
 none-of None is = refl
 none-of (Some l) is = absurd (cc)
 
 -- nothing was done on one
-pub none-lined : (u : UnitName) (m n : MachineState) (w : Want) (s new : LineState) (whole : List Answer) (ls : List (LineOf ℕ)) → n ≡ asked u m → w ≡ want_at u m
-    → DoneOnLine (lined n.time w (map (seen_line s) n.lines) (ahead_of s.told whole)) None whole s new ls
-    → lined m.time (want_at u m) (map (seen_line s) m.lines) (ahead_of s.told whole) ≡ None
-none-lined u m n w s new whole ls asks wants done =
-    sym (lined-asked u m n w s (ahead_of s.told whole) asks wants) ∙ none-of (lined n.time w (map (seen_line s) n.lines) (ahead_of s.told whole)) done.answers
+pub none-lined : (u : UnitName) (m n : MachineState) (w : Want) (watch : WatchState) (keys : List (ℕ × ℕ)) (s new : LineState) (whole : List Answer) (ls : List (LineOf ℕ)) → n ≡ asked u m → w ≡ want_at u m
+    → DoneAs (lined w (around_of watch keys s whole n)) None watch.expects whole s new ls → lined (want_at u m) (around_of watch keys s whole m) ≡ None
+none-lined u m n w watch keys s new whole ls asks wants done =
+    sym (lined-asked u m n w watch keys s whole asks wants) ∙ none-of (lined w (around_of watch keys s whole n)) done.line.answers
 
 -- this was done on one
-pub record IsLined (o : Option Lined) (g : Got) (whole : List Answer) (old new : LineState) (ls : List (LineOf ℕ)) : Type 0 where
+pub record IsLined (o : Option Lined) (made : OnLine) (expects : ExpectTable) (whole : List Answer) (old new : LineState) (ls : List (LineOf ℕ)) : Type 0 where
   pub done : Lined
   pub is : o ≡ Some done
-  pub got_is : g ≡ done.got
+  pub got_is : got_on made ≡ done.got
+  pub stop_is : stop_on made expects ≡ done.stop
+  pub waits_is : expects_on made expects ≡ done.expects
   pub lines : done.lines ≡ map (seen_line new) ls
   pub ahead : done.ahead ≡ ahead_of new.told whole
   pub heard : new.sent ≡ heard_more old.sent done.sent
 
-lined-of : (o : Option Lined) (g : Got) (whole : List Answer) (old new : LineState) (ls : List (LineOf ℕ)) → DoneOnLine o (Some g) whole old new ls → IsLined o g whole old new ls
-lined-of None g whole old new ls done = let none = done.answers in absurd (cc)
-lined-of (Some l) g whole old new ls done =
-    record { done = l; is = refl; got_is = same_Some g l.got done.answers; lines = done.lines; ahead = done.ahead; heard = done.heard }
+lined-of : (o : Option Lined) (made : OnLine) (expects : ExpectTable) (whole : List Answer) (old new : LineState) (ls : List (LineOf ℕ)) → DoneAs o (Some made) expects whole old new ls
+    → IsLined o made expects whole old new ls
+lined-of None made expects whole old new ls did = let none = did.line.answers in absurd (cc)
+lined-of (Some l) made expects whole old new ls did = record {
+  done = l;
+  is = refl;
+  got_is = same_Some (got_on made) l.got did.line.answers;
+  stop_is = same_Some (stop_on made expects) l.stop (sym did.stop);
+  waits_is = same_Some (expects_on made expects) l.expects (sym did.waits);
+  lines = did.line.lines;
+  ahead = did.line.ahead;
+  heard = did.line.heard;
+}
 
-pub some-lined : (u : UnitName) (m n : MachineState) (w : Want) (g : Got) (s new : LineState) (whole : List Answer) (ls : List (LineOf ℕ)) → n ≡ asked u m → w ≡ want_at u m
-    → DoneOnLine (lined n.time w (map (seen_line s) n.lines) (ahead_of s.told whole)) (Some g) whole s new ls
-    → IsLined (lined m.time (want_at u m) (map (seen_line s) m.lines) (ahead_of s.told whole)) g whole s new ls
-some-lined u m n w g s new whole ls asks wants done =
-    lined-of (lined m.time (want_at u m) (map (seen_line s) m.lines) (ahead_of s.told whole)) g whole s new ls
-    (subst (λ (o : Option Lined). DoneOnLine o (Some g) whole s new ls) (lined-asked u m n w s (ahead_of s.told whole) asks wants) done)
+pub some-lined : (u : UnitName) (m n : MachineState) (w : Want) (made : OnLine) (watch : WatchState) (keys : List (ℕ × ℕ)) (s new : LineState) (whole : List Answer) (ls : List (LineOf ℕ)) → n ≡ asked u m → w ≡ want_at u m
+    → DoneAs (lined w (around_of watch keys s whole n)) (Some made) watch.expects whole s new ls
+    → IsLined (lined (want_at u m) (around_of watch keys s whole m)) made watch.expects whole s new ls
+some-lined u m n w made watch keys s new whole ls asks wants did =
+    lined-of (lined (want_at u m) (around_of watch keys s whole m)) made watch.expects whole s new ls
+    (subst (λ (o : Option Lined). DoneAs o (Some made) watch.expects whole s new ls) (lined-asked u m n w watch keys s whole asks wants) did)

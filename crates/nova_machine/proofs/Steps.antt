@@ -28,9 +28,14 @@ use Rattle.nova_machine.specs.declared.service.Hosted.TheVariants.{Gets, Stops}
 use Rattle.nova_machine.specs.Machine.{MachineState}
 use Rattle.nova_machine.specs.Turned.{Turned, goes_on}
 use Rattle.nova_machine.specs.Turn.{interrupt}
-use Rattle.nova_machine.specs.OnLines.{IsOfLine}
+use Rattle.nova_machine.specs.declared.on_line.OnLine.{OnLine}
+use Rattle.nova_machine.specs.declared.on_line.OnLine.TheVariants.{Gets as LineGets}
+use Rattle.nova_machine.specs.OnLines.{IsOfLine, is_ported}
+use Rattle.nova_machine.specs.OnLine.{got_on, stop_on, IsDoneOn, IsOffLine}
+use Rattle.nova_machine.proofs.ConsoleSteps.{closed-off}
+use Rattle.nova_machine.proofs.LineCauses.{DidOnLine}
 use Rattle.nova_machine.specs.Quiet.{IsPlain}
-use Rattle.nova_machine.specs.Service.{want_at, asked, answered}
+use Rattle.nova_machine.specs.Service.{want_at, asked, answered, stopping}
 use Rattle.nova_machine.specs.Seen.{attached_in}
 use Rattle.nova_machine.specs.Wants.{first_key, typed_key, key_stop, answer_to}
 use Rattle.nova_machine.specs.Hosting.{hosted_of}
@@ -40,7 +45,7 @@ use Rattle.nova_machine.specs.Looks.{keyboard, looked_at}
 use Rattle.nova_machine.specs.LineLooks.{second_keyboard, first_looked, LookAgain, AreLooking, IsKeylessNow}
 use Rattle.nova_machine.specs.Bursts.{Bursts}
 use Rattle.nova_machine.specs.Steps.{IsByteAnswer, IsTapeDone, IsTapeAnswer}
-use Rattle.nova_machine.specs.Steps.{worked, IsMade, IsLineWant, IsService, event_taken, Services, no_services, one_more, StopsServing}
+use Rattle.nova_machine.specs.Steps.{worked, IsMade, IsService, event_taken, Services, no_services, one_more, StopsServing}
 use Rattle.nova_machine.specs.Steps.{Ended, ended, then_end, entered, IsBehind, ComesTo, Turns, some_turns, IsRun, is_endless, GoAlong}
 use Rattle.nova_machine.proofs.Plain.{interrupt-none}
 use Rattle.nova_machine.proofs.Serving.{nothing-taken}
@@ -61,19 +66,33 @@ made-of keys unit w watch watch' m n done made asks wants is =
     subst (λ (x : MachineState). IsMade keys unit (want_at unit m) watch watch' x done made) asks
     (subst (λ (v : Want). IsMade keys unit v watch watch' n done made) wants is)
 
+-- a want that is for no line, of the machine before its unit was asked
+pub off-asked : (keys : List (ℕ × ℕ)) (unit : UnitName) (w : Want) (watch : WatchState) (m n : MachineState) → n ≡ asked unit m → w ≡ want_at unit m
+    → IsOffLine w (is_ported n.lines) (first_key (due_send n.time watch.sends) (due_key keys n.taken n.time))
+    → IsOffLine (want_at unit m) (is_ported m.lines) (first_key (due_send m.time watch.sends) (due_key keys m.taken m.time))
+unfolding asked
+off-asked keys unit w watch m n asks wants off =
+    let P : MachineState → Want → Type 0 = λ x v. IsOffLine v (is_ported x.lines) (first_key (due_send x.time watch.sends) (due_key keys x.taken x.time)) in
+    subst (λ (v : Want). P (asked unit m) v) wants (subst (λ (x : MachineState). P x w) asks off)
+
 -- it was made on a line
-pub on-a-line : (keys : List (ℕ × ℕ)) (unit : UnitName) (w : Want) (why : Option Stop) (watch : WatchState) (m n h new : MachineState) (got : Got) → n ≡ asked unit m → w ≡ want_at unit m → h ≡ record n { lines = h.lines }
-    → IsLineWant w → IsOfLine got → new ≡ (answered unit got h).machine → why ≡ (answered unit got h).stop → IsService keys unit why watch watch m new
-on-a-line keys unit w why watch m n h new got asks wants is on-one of left stops = inr (record {
-  wants = subst IsLineWant wants on-one;
-  lines = h.lines;
-  answer = got;
-  of = of;
-  watched = refl;
-  left =
-      ap (λ (x : MachineState). answered unit got (record x { lines = h.lines })) (sym asks) ∙ ap (λ (x : MachineState). answered unit got x) (sym is)
-      ∙ turned-is (answered unit got h) new why left stops;
-})
+pub on-a-line : (keys : List (ℕ × ℕ)) (unit : UnitName) (w : Want) (made : OnLine) (watch watch' : WatchState) (m n h new : MachineState) (why : Option Stop) → DidOnLine keys unit w made watch watch' m n h new why → w ≡ want_at unit m
+    → IsService keys unit why watch watch' m new
+unfolding asked
+on-a-line keys unit w made watch watch' m n h new why did wants =
+    let P : MachineState → Want → Type 0 = λ x v. IsDoneOn v (is_ported x.lines) (first_key (due_send x.time watch.sends) (due_key keys x.taken x.time)) made in
+    let own = stop_on made watch.expects in
+    let g = got_on made in
+    inr (record {
+      made = made;
+      wants = subst (λ (v : Want). P (asked unit m) v) wants (subst (λ (x : MachineState). P x w) did.asks did.wants);
+      lines = h.lines;
+      of = did.of;
+      watched = did.watched;
+      left =
+          ap (λ (x : MachineState). stopping own (answered unit g (record x { lines = h.lines }))) (sym did.asks) ∙ ap (λ (x : MachineState). stopping own (answered unit g x)) (sym did.only)
+          ∙ turned-is (stopping own (answered unit g h)) new why did.left did.stops;
+    })
 
 -- ---- what a file gives
 
@@ -195,6 +214,9 @@ keyboard-looks : (keys : List (ℕ × ℕ)) (watch : WatchState) (period : ℕ) 
 keyboard-looks keys watch period m keyless again =
     let there = wish-there Tti m.units period again.first in
     inl (record {
+      off =
+          subst (λ (w : Want). IsOffLine w (is_ported m.lines) (first_key (due_send m.time watch.sends) (due_key keys m.taken m.time))) (sym (wants-key Tti tt m.units there))
+          (closed-off m.lines (first_key (due_send m.time watch.sends) (due_key keys m.taken m.time)) keyless.2);
       done = m;
       made = Gets NoKey;
       work = made-of keys keyboard want.Key watch watch m m m (Gets NoKey) (sym (asked-same Tti tt m)) (sym (wants-key Tti tt m.units there)) (keyless-made keys watch m keyless);
@@ -209,9 +231,9 @@ second-looks keys watch period m n last got looking of left =
     let at = first_looked period m in
     let there = wish-there Tti1 m.units period looking.again.second in
     inr (record {
-      wants = subst IsLineWant (sym (wants-key Tti1 tt m.units there)) tt;
+      made = LineGets got;
+      wants = subst (λ (w : Want). IsDoneOn w (is_ported at.lines) (first_key (due_send at.time watch.sends) (due_key keys at.taken at.time)) (LineGets got)) (sym (wants-key Tti1 tt m.units there)) tt;
       lines = n.lines;
-      answer = got;
       of = of;
       watched = refl;
       left = ap (λ (x : MachineState). answered second_keyboard got (record x { lines = n.lines })) (asked-same Tti1 tt at) ∙ left;

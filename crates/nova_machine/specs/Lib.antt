@@ -9,6 +9,7 @@ pub mod Transfer
 pub mod Sectors
 pub mod Wants
 pub mod OnLines
+pub mod OnLine
 pub mod LineChanges
 pub mod Hosting
 pub mod Service

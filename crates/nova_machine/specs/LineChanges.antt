@@ -9,7 +9,10 @@ use Rattle.unit_trait.specs.declared.calls.Got.{Got}
 use Rattle.telnet_lines.specs.Line.{LineOf}
 use Rattle.telnet_lines.specs.Joined.{seen_line}
 use Rattle.telnet_lines.specs.Many.{AreApart}
+use Rattle.expect_actions.specs.Expects.{ExpectTable}
+use Rattle.nova_machine.specs.declared.on_line.OnLine.{OnLine}
 use Rattle.nova_machine.specs.OnLines.{Lined}
+use Rattle.nova_machine.specs.OnLine.{got_on, stop_on, expects_on}
 
 abbrev pub ports_of : {P : Type 0} → List (LineOf P) → List (Option ℕ)
 ports_of {P} lines = map (λ (line : LineOf P). line.port) lines
@@ -58,3 +61,9 @@ pub record DoneOnLine (l : Option Lined) (answer : Option Got) (whole : List Ans
   pub lines : IfSome l (λ x. x.lines ≡ map (seen_line new) after)
   pub ahead : IfSome l (λ x. x.ahead ≡ ahead_of new.told whole)
   pub heard : IfSome l (λ x. new.sent ≡ heard_more old.sent x.sent)
+
+-- the same, with the stop that the machine has for itself and the texts that are waited for
+pub record DoneAs (l : Option Lined) (done : Option OnLine) (expects : ExpectTable) (whole : List Answer) (old new : LineState) (after : List (LineOf ℕ)) : Type 0 where
+  pub line : DoneOnLine l (option_map got_on done) whole old new after
+  pub stop : option_map (λ (x : Lined). x.stop) l ≡ option_map (λ d. stop_on d expects) done
+  pub waits : option_map (λ (x : Lined). x.expects) l ≡ option_map (λ d. expects_on d expects) done

@@ -1,5 +1,5 @@
 -- Looks of both keyboards at one time, where the line of the second teletype may have a port: it is polled between bursts.
-use Rattle.std.specs.Prelude.{◌≡◌, ℕ, ◌-◌, ◌<◌, ◌≤◌, Bool, false, List, [], ◌∷◌, Option, Some, None}
+use Rattle.std.specs.Prelude.{◌≡◌, ℕ, ◌-◌, ◌<◌, ◌≤◌, Bool, false, List, [], ◌∷◌, slice_get, Option, Some, None}
 use Rattle.unit_trait.specs.declared.kind.UnitName.{UnitName}
 use Rattle.unit_trait.specs.declared.kind.Kind.TheVariants.{Tti1}
 use Rattle.unit_trait.specs.declared.calls.Queue.TheVariants.{After}
@@ -16,7 +16,8 @@ use Rattle.nova_processor.specs.declared.burst.BurstEnd.{BurstEnd}
 use Rattle.nova_processor.specs.declared.burst.BurstEnd.TheVariants as burst_end
 use Rattle.nova_machine.specs.declared.machine.Stop.{Stop}
 use Rattle.nova_machine.specs.declared.machine.Stop.TheVariants.{ChainLimit}
-use Rattle.nova_machine.specs.Machine.{MachineState}
+use Rattle.telnet_lines.specs.Line.{unconnected}
+use Rattle.nova_machine.specs.Machine.{MachineState, console_place}
 use Rattle.nova_machine.specs.Notes.{RunNote}
 use Rattle.nova_machine.specs.Seen.{Seen, seen, beside}
 use Rattle.nova_machine.specs.Comes.{Output, output, Comes, Does}
@@ -42,9 +43,10 @@ pub record AreLooking (period : ℕ) (m : MachineState) : Type 0 where
 abbrev pub first_looked : ℕ → MachineState → MachineState
 first_looked period m = record m { events = served (activated keyboard period (served m.events)) }
 
--- no key of the console is due
+-- No key of the console comes: none is due, and its line has no port.
 abbrev pub IsKeylessNow : WatchState → List (ℕ × ℕ) → MachineState → Type 0
-IsKeylessNow watch keys m = (due_send m.time watch.sends ≡ None) × (due_key keys m.taken m.time ≡ None)
+IsKeylessNow watch keys m =
+    (due_send m.time watch.sends ≡ None) × (due_key keys m.taken m.time ≡ None) × (slice_get m.lines console_place ≡ Some (unconnected None))
 
 -- Of so many turns some are done, with polls of the lines among them: what those that are left come to, they all come to,
 -- whichever files, failing calls and console there are. A chain without an end has ended them.

@@ -19,7 +19,7 @@ use Rattle.expect_actions.specs.Sends.{Send, due_send}
 use Rattle.unit_files.specs.Acts.{Failure}
 use Rattle.nova_processor.specs.declared.burst.BurstEnd.{BurstEnd}
 use Rattle.nova_processor.specs.declared.burst.BurstEnd.TheVariants.{ChainLimit}
-use Rattle.nova_machine.specs.Machine.{MachineState, place_of}
+use Rattle.nova_machine.specs.Machine.{MachineState, console_place, place_of}
 use Rattle.nova_machine.specs.Seen.{Seen, with_machine}
 use Rattle.nova_machine.specs.Parts.{silent}
 use Rattle.nova_machine.specs.Service.{key_at, service}
@@ -36,10 +36,11 @@ wish_of m = (row_at (code_of Tti) (Answered 0 NoKey) m.units).queue
 abbrev pub looked_again : MachineState → MachineState
 looked_again m = record m { events = wished keyboard (wish_of m) m.events }
 
--- a look for which no key comes asks for the keyboard's event again, and changes nothing else
+-- A look for which no key comes asks for the keyboard's event again, and changes nothing else, as long as the console line has
+-- no port.
 abbrev pub LooksChangeNothing : Type 0
 LooksChangeNothing =
-    (fault : Option Failure) (s : Seen) → is_some (unit_at (code_of Tti) s.machine.units) ≡ true → key_at s ≡ None
+    (fault : Option Failure) (s : Seen) → is_some (unit_at (code_of Tti) s.machine.units) ≡ true → slice_get s.lines console_place ≡ Some (unconnected None) → key_at s ≡ None
     → service fault keyboard s ≡ silent None (with_machine s (looked_again s.machine))
 
 -- no key comes before that time: none that was sent, and none that is typed
@@ -52,10 +53,10 @@ IsKeyed Tti = Unit {0}
 IsKeyed Tti1 = Unit {0}
 IsKeyed kind = ⊥
 
--- Where no key is sent or typed, none comes for that keyboard: the console's, and that of the second teletype as long as
--- its line has no port.
+-- Where no key is sent or typed, none comes for that keyboard as long as its line has no port: the console line, or that of
+-- the second teletype.
 abbrev pub IsUnheard : {P : Type 0} → Kind → List (LineOf P) → Type 0
-IsUnheard Tti lines = Unit {0}
+IsUnheard Tti lines = slice_get lines console_place ≡ Some (unconnected None)
 IsUnheard Tti1 lines = slice_get lines (place_of 0) ≡ Some (unconnected None)
 IsUnheard kind lines = ⊥
 

@@ -18,7 +18,7 @@ use Rattle.nova_machine.specs.Notes.{UnitNote, at_unit}
 use Rattle.nova_machine.specs.Sectors.{disk_after}
 use Rattle.memory_transfer.specs.Tapes.{NoAnswer}
 use Rattle.nova_machine.specs.Wants.{answer_to, memory_behind, files_after, taken_after, watch_after, first_key, typed_key, own_stop, prints, stop_by, unanswered}
-use Rattle.nova_machine.specs.OnLines.{Lined, lined, sends}
+use Rattle.nova_machine.specs.OnLines.{Lined, Around, around_at, lined, sends}
 use Rattle.nova_machine.specs.Seen.{Seen, with_machine, attached_in}
 use Rattle.nova_machine.specs.Parts.{Part, silent, behind_made, then_part}
 use Rattle.nova_machine.specs.Turned.{Turned, still}
@@ -65,6 +65,10 @@ sent_at s = due_send s.machine.time s.watch.sends
 abbrev pub key_at : Seen → Option ℕ
 key_at s = first_key (sent_at s) (typed_at s)
 
+-- what stands around a want
+abbrev pub around : Seen → Around
+around s = around_at s.machine.time (key_at s) s.watch.expects s.lines s.ahead
+
 -- what a unit wants was done that has this attachment, where this key of the typed ones comes: it is taken, a sector is moved, or a block
 -- of a tape is read
 abbrev pub done_for : Option Failure → Option ℕ → Option Attachment → List NamedBytes → Want → MachineState → MachineState
@@ -85,8 +89,8 @@ hosted fault unit s =
       files = files_after fault a s.machine.processor.memory s.files want;
     }
 
--- A unit is served that wants nothing of a line which is there: the machine does what it wants, and the unit gets the
--- answer. A byte for the console is printed before that. A call on its file fails where the outside says so.
+-- A unit is served that wants nothing of a line which is there, nor of the console line where that has a port: the machine
+-- does what it wants, and the unit gets the answer. A byte for the console is printed before that. A call on its file fails where the outside says so.
 unfoldable pub own_service : Option Failure → UnitName → Seen → Part
 own_service fault unit s =
     let want = want_at unit s.machine in
@@ -94,13 +98,18 @@ own_service fault unit s =
     behind_made (prints want (with_machine s (asked unit s.machine)))
     (replied unit (own_stop (key_at s) s.watch.expects want) (answer_to fault a s.files (key_at s) want) (hosted fault unit s))
 
--- A unit is served that wants something of a line which is there: bytes that are sent, are sent before the unit gets the
--- answer.
+-- A unit is served that wants something of a line which is there, or of the console line where that has a port: bytes that
+-- are sent, are sent before the unit gets the answer.
 abbrev pub behind_line : UnitName → Lined → Seen → Seen
-behind_line unit l s = record s { machine = asked unit s.machine; lines = l.lines; ahead = l.ahead }
+behind_line unit l s = record s {
+  machine = asked unit s.machine;
+  watch = record s.watch { expects = l.expects };
+  lines = l.lines;
+  ahead = l.ahead;
+}
 
 unfoldable pub line_service : UnitName → Lined → Seen → Part
-line_service unit l s = behind_made (sends l.sent) (replied unit None (Ok l.got) (behind_line unit l s))
+line_service unit l s = behind_made (sends l.sent) (replied unit l.stop (Ok l.got) (behind_line unit l s))
 
 abbrev pub service_by : Option Lined → Option Failure → UnitName → Seen → Part
 service_by None fault unit s = own_service fault unit s
@@ -108,7 +117,7 @@ service_by (Some l) fault unit s = line_service unit l s
 
 -- what a unit's want comes to on a line
 abbrev pub lined_at : UnitName → Seen → Option Lined
-lined_at unit s = lined s.machine.time (want_at unit s.machine) s.lines s.ahead
+lined_at unit s = lined (want_at unit s.machine) (around s)
 
 -- A unit whose event was taken is served: it says what it wants, the machine does that, and the unit gets the answer.
 unfoldable pub service : Option Failure → UnitName → Seen → Part

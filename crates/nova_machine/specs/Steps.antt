@@ -7,7 +7,6 @@ use Rattle.unit_trait.specs.declared.kind.UnitName.{UnitName}
 use Rattle.unit_trait.specs.declared.calls.Want.{Want}
 use Rattle.unit_trait.specs.declared.calls.Want.TheVariants as want
 use Rattle.unit_trait.specs.declared.calls.TapeOrder.{TapeOrder}
-use Rattle.unit_trait.specs.declared.calls.Got.{Got}
 use Rattle.unit_trait.specs.declared.calls.Got.TheVariants as got
 use Rattle.unit_files.specs.Attachments.{Attachment, attachment_at}
 use Rattle.event_queue.specs.EventList.{due, served}
@@ -28,7 +27,9 @@ use Rattle.nova_machine.specs.Machine.{MachineState}
 use Rattle.nova_machine.specs.Seen.{attached_in}
 use Rattle.nova_machine.specs.Turned.{Turned, stops}
 use Rattle.nova_machine.specs.Wants.{first_key, typed_key}
-use Rattle.nova_machine.specs.OnLines.{IsOfLine}
+use Rattle.nova_machine.specs.declared.on_line.OnLine.{OnLine}
+use Rattle.nova_machine.specs.OnLines.{IsOfLine, is_ported}
+use Rattle.nova_machine.specs.OnLine.{got_on, stop_on, expects_on, IsDoneOn, IsOffLine}
 use Rattle.nova_machine.specs.Hosting.{IsHosted, watch_behind}
 use Rattle.memory_transfer.specs.Tapes.{writes_tape}
 use Rattle.nova_machine.specs.Service.{want_at, asked, answered, done_for, stopping}
@@ -88,30 +89,27 @@ left_by unit Wru m = stopping (Some stop.Wru) (answered unit got.NoKey m)
 left_by unit (Matched place) m = stopping (Some (Expect place)) (answered unit got.Done m)
 left_by unit (Stops why) m = stops why m
 
--- A unit is served whose event was taken: it says what it wants, that is done, and it is answered.
+-- A unit is served whose event was taken: it says what it wants, that is done, and it is answered. It wants nothing of the
+-- console line.
 pub record IsOwnService (keys : List (ℕ × ℕ)) (unit : UnitName) (why : Option Stop) (watch watch' : WatchState) (old new : MachineState) : Type 0 where
+  pub off : IsOffLine (want_at unit old) (is_ported old.lines) (first_key (due_send old.time watch.sends) (due_key keys old.taken old.time))
   pub done : MachineState
   pub made : Hosted
   pub work : IsMade keys unit (want_at unit old) watch watch' (asked unit old) done made
   pub left : left_by unit made done ≡ record { machine = new; stop = why }
 
--- a unit wants something of a line
-abbrev pub IsLineWant : Want → Type 0
-IsLineWant (want.LineKey line) = Unit {0}
-IsLineWant (want.LinePut line byte) = Unit {0}
-IsLineWant other = ⊥
-
--- .. which wants something of a line: that answers, and nothing else has changed
-pub record IsLineService (unit : UnitName) (why : Option Stop) (watch watch' : WatchState) (old new : MachineState) : Type 0 where
-  pub wants : IsLineWant (want_at unit old)
+-- .. which wants something of a line, or of the console line where that has a port: that answers, a byte that was put on the
+-- console line may end a text that is waited for, and nothing else has changed
+pub record IsLineService (keys : List (ℕ × ℕ)) (unit : UnitName) (why : Option Stop) (watch watch' : WatchState) (old new : MachineState) : Type 0 where
+  pub made : OnLine
+  pub wants : IsDoneOn (want_at unit old) (is_ported old.lines) (first_key (due_send old.time watch.sends) (due_key keys old.taken old.time)) made
   pub lines : List (LineOf ℕ)
-  pub answer : Got
-  pub of : IsOfLine answer
-  pub watched : watch' ≡ watch
-  pub left : answered unit answer (record (asked unit old) { lines = lines }) ≡ record { machine = new; stop = why }
+  pub of : IsOfLine (got_on made)
+  pub watched : watch' ≡ record watch { expects = expects_on made watch.expects }
+  pub left : stopping (stop_on made watch.expects) (answered unit (got_on made) (record (asked unit old) { lines = lines })) ≡ record { machine = new; stop = why }
 
 abbrev pub IsService : List (ℕ × ℕ) → UnitName → Option Stop → WatchState → WatchState → MachineState → MachineState → Type 0
-IsService keys unit why watch watch' old new = IsOwnService keys unit why watch watch' old new ⊎ IsLineService unit why watch watch' old new
+IsService keys unit why watch watch' old new = IsOwnService keys unit why watch watch' old new ⊎ IsLineService keys unit why watch watch' old new
 
 -- ---- services, one behind another
 

@@ -1,6 +1,6 @@
 -- Why a turn or a run stopped, by the machine and the watch tables that it left and by those that it began with, whether
 -- the bytes of files are told or not.
-use Rattle.std.specs.Prelude.{◌≡◌, ◌⊎◌, ℕ, ◌+◌, ◌<◌, ◌≤◌, Bool, true, false, IsTrue, List, [], ◌∷◌, ◌++◌, Option, Some, None, codes}
+use Rattle.std.specs.Prelude.{◌≡◌, ◌⊎◌, ℕ, ◌+◌, ◌<◌, ◌≤◌, Bool, true, false, IsTrue, List, [], ◌∷◌, ◌++◌, Option, Some, None, codes, if◌then◌else◌}
 use Rattle.nova_memory.specs.Memory.{get}
 use Rattle.unit_trait.specs.declared.kind.Kind.{Kind}
 use Rattle.unit_trait.specs.declared.kind.UnitName.{UnitName}
@@ -27,6 +27,7 @@ use Rattle.nova_machine.specs.declared.service.Hosted.{Hosted}
 use Rattle.nova_machine.specs.declared.service.Hosted.TheVariants.{Gets, Matched, Stops}
 use Rattle.nova_machine.specs.declared.service.Hosted.TheVariants as hosted
 use Rattle.nova_machine.specs.Machine.{MachineState}
+use Rattle.nova_machine.specs.OnLines.{is_ported}
 use Rattle.nova_machine.specs.Seen.{attached_in}
 use Rattle.nova_machine.specs.Wants.{first_key, typed_key, wru, own_stop, taken_after}
 use Rattle.nova_machine.specs.Turn.{is_interrupted, interrupt_reference}
@@ -124,14 +125,15 @@ IsMadeOf want kind a key expects (Stops stop) = ⊥
 
 -- ---- the watch tables
 
--- a moment of a session, by the time, how many keys were taken, and the watch tables
+-- a moment of a session, by the time, how many keys were taken, whether the console line has a port, and the watch tables
 pub record Moment : Type 0 where
   pub time : ℕ
   pub taken : ℕ
+  pub ported : Bool
   pub watch : WatchState
 
 abbrev pub moment_of : WatchState → MachineState → Moment
-moment_of watch m = record { time = m.time; taken = m.taken; watch = watch }
+moment_of watch m = record { time = m.time; taken = m.taken; ported = is_ported m.lines; watch = watch }
 
 -- a break whose count is no larger than it was
 pub record IsCountedDown (old new : Break) : Type 0 where
@@ -176,12 +178,17 @@ abbrev pub Matches : Option Stop → List ℕ → ExpectTable → Type 0
 Matches (Some (Expect place)) bytes t = LastMatches place bytes t
 Matches stop bytes t = NoneMatches bytes t
 
+-- the bytes that come on the console's own output: where its line has a port, they were put on that
+abbrev pub console_bytes : Bool → List ℕ → List ℕ
+console_bytes ported bytes = if ported then [] else bytes
+
 -- What a turn or a run has made of the watch tables and the keys, on a console that had and has these bytes: each byte
--- that it printed was compared with the texts, counts of breaks were lowered, bytes of SEND were taken from the front,
--- and no key was given back.
+-- that it printed, or put on the console line, was compared with the texts, counts of breaks were lowered, bytes of SEND were
+-- taken from the front, and no key was given back. The console line has a port as before, or none.
 pub record Watches (stop : Option Stop) (start now : Moment) (tells : Bool) (before after : List ℕ) : Type 0 where
   pub bytes : List ℕ
-  pub written : IsTrue tells → after ≡ before ++ bytes
+  pub written : IsTrue tells → after ≡ before ++ console_bytes start.ported bytes
+  pub ported : now.ported ≡ start.ported
   pub compared : now.watch.expects ≡ all_printed bytes start.watch.expects
   pub matches : Matches stop bytes start.watch.expects
   pub breaks : AreCountedDown start.watch.breaks.list now.watch.breaks.list
@@ -189,14 +196,19 @@ pub record Watches (stop : Option Stop) (start now : Moment) (tells : Bool) (bef
   pub sends : start.watch.sends ≡ front ++ now.watch.sends
   pub keys : start.taken ≤ now.taken
 
--- the key that stops a run came, from SEND or else from the keys file, was due, and was taken
+-- A key stops a run that came from SEND or else from the keys file and was due; or where none was, and the console line has a
+-- port, from a poll of that.
+abbrev pub IsWruKey : Option ℕ → Bool → Type 0
+IsWruKey due ported = (due ≡ Some wru) ⊎ ((due ≡ None) × (ported ≡ true))
+
+-- the key that stops a run came, and was taken
 pub record TookWru (keys : List (ℕ × ℕ)) (start : Moment) (watch : WatchState) (m : MachineState) : Type 0 where
   pub front : List Send
   pub sends : List Send
   pub waited : start.watch.sends ≡ front ++ sends
   pub taken : ℕ
   pub later : start.taken ≤ taken
-  pub key : first_key (due_send m.time sends) (due_key keys taken m.time) ≡ Some wru
+  pub key : IsWruKey (first_key (due_send m.time sends) (due_key keys taken m.time)) (is_ported m.lines)
   pub sends_now : watch.sends ≡ sends_left m.time sends
   pub taken_now : m.taken ≡ taken_after taken (typed_key (due_send m.time sends) (due_key keys taken m.time)) want.Key
 

@@ -1,5 +1,5 @@
-// Looks of the keyboards for which no key comes, those of the second teletype as long as its line has no port: they
-// pass between the instructions of a burst, up to the next event of another unit or the next key.
+// Looks of the keyboards for which no key comes, as long as their lines have no port, the console line and that of the
+// second teletype: they pass between the instructions of a burst, up to the next event of another unit or the next key.
 ghost use Rattle.std.specs.Prelude.{◌≡◌, ◌≤◌, ◌<◌, ◌+◌, ◌^◌, ◌&&◌, ℕ, List, true, false, None, Some, slice_get, option_map, map, IfSome};
 ghost use Rattle.unit_trait.specs.declared.calls.Queue.TheVariants.{After};
 ghost use Rattle.unit_list.specs.Bus.{kinds_of};
@@ -7,7 +7,7 @@ ghost use Rattle.unit_list.specs.Places.{places_in};
 ghost use Rattle.event_queue.specs.Idle.{AreTwins, idled};
 ghost use Rattle.nova_interrupts.specs.Requests.{requested};
 ghost use Rattle.telnet_lines.specs.Line.{unconnected};
-ghost use Rattle.nova_machine.specs.Machine.{place_of};
+ghost use Rattle.nova_machine.specs.Machine.{console_place, place_of};
 ghost use Rattle.nova_machine.specs.Run.{last_time};
 ghost use Rattle.nova_machine.specs.Looks.{IsKeyless, IsKeyed, IsUnheard, IsLooking, LooksAt, AreNext, IsIdle, keyless_wish, idled_by, looked_at, idle_end};
 
@@ -183,7 +183,7 @@ impl<U: Unit> Machine<U> {
             UnitName {
                 kind: Kind::Tti,
                 unit: 0,
-            } => true,
+            } => self.is_console_closed(),
             UnitName {
                 kind: Kind::Tti1,
                 unit: 0,
@@ -200,6 +200,13 @@ impl<U: Unit> Machine<U> {
             None => false,
             Some(line) => line.is_closed(),
         }
+    }
+
+    /// Whether the console line has no port.
+    pub(crate) fn is_console_closed(&self) -> bool
+        ensures { result ≡ true → slice_get self.now.lines console_place ≡ Some (unconnected None) }
+    {
+        self.console.is_closed()
     }
 
     /// A time before which no key comes.

@@ -113,13 +113,14 @@ impl<U: Unit> Machine<U> {
         }
     }
 
-    /// Whether both keyboards look now, no other event is due, no key of the console is, and time has not ended.
+    /// Whether both keyboards look now, no other event is due, no key of the console is, its line has no port, and time
+    /// has not ended.
     fn may_look(&self, watch: &Watch, keys: &Keys) -> bool
         ensures due { result ≡ true → dues self.now.events ≡ keyboard ∷ second_keyboard ∷ [] }
         ensures keyless { result ≡ true → IsKeylessNow watch.now keys.now self.now }
         ensures early { result ≡ true → self.now.time < last_time }
     {
-        if !self.are_both_due() {
+        if !self.is_console_closed() || !self.are_both_due() {
             return false;
         }
         if self.keyless_until(watch, keys) <= self.time {

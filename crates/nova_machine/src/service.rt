@@ -20,6 +20,7 @@ ghost use Rattle.nova_machine.specs.Hosting.{CanBeHosted, IsImageOf, hosted_of, 
 ghost use Rattle.nova_machine.specs.Wants.{taken_after, files_after, watch_after, first_key, typed_key, stop_by, HasUnit};
 
 use crate::machine::{Machine, Stop};
+use crate::on_line::OnLine;
 use expect_actions::{Keys, Watch};
 use file_traits::{Failed, Files, Sink, put_all};
 use host_lines::Lines;
@@ -33,7 +34,8 @@ impl<U: Unit> Machine<U> {
     ghost use Rattle.nova_machine.specs.Core.{IsAmong};
     ghost use Rattle.nova_machine.specs.Seen.{seen, beside};
     ghost use Rattle.nova_machine.specs.Comes.{Does, AreTold, FileCause};
-    ghost use Rattle.nova_machine.specs.Service.{serving, service, asked, answered, want_at};
+    ghost use Rattle.nova_machine.specs.Service.{serving, service, asked, answered, want_at, first_stop};
+    ghost use Rattle.nova_machine.specs.OnLine.{got_on, stop_on, expects_on};
     ghost use Rattle.nova_machine.specs.StopCauses.{moment_of, Watches, ServiceCause};
     ghost use Rattle.nova_machine.specs.Steps.{IsService, AreServedTo};
     ghost use Rattle.nova_machine.specs.LineChanges.{AreLinesTold, LinesGoOn};
@@ -129,8 +131,8 @@ impl<U: Unit> Machine<U> {
         ensures steps { IsService keys.now unit result watch.old watch.new self.old self.new }
     {
         let want = self.ask(unit);
-        match self.on_line(want, lines) {
-            Some(got) => return self.answer(unit, got),
+        match self.on_line(want, watch, keys, lines) {
+            Some(made) => return self.answer_on_line(unit, made, watch),
             None => (),
         }
         match self.host(want, unit, watch, keys, files, out) {
@@ -186,6 +188,39 @@ impl<U: Unit> Machine<U> {
         stop_by(unit, after.stop)
     }
 
+    /// Gives a unit what was done on a line. A byte that was put on the console line may end a text that is waited for.
+    fn answer_on_line(&mut self, unit: UnitName, made: OnLine, watch: &mut Watch) -> Option<Stop>
+        requires number { unit.unit < units_of unit.kind }
+        requires room { TakesAnswerIn unit.kind (got_on made) self.old.units }
+        requires listed { IsAmong unit.kind (kinds_of self.old.units) }
+        ensures machine { self.new ≡ (answered unit (got_on made) self.old).machine }
+        ensures stop { result ≡ first_stop (stop_on made watch.old.expects) (answered unit (got_on made) self.old).stop }
+        ensures watch { watch.new ≡ record watch.old { expects = expects_on made watch.old.expects } }
+        ensures slots { self.new.slots ≡ self.old.slots }
+        ensures kinds { kinds_of self.new.units ≡ kinds_of self.old.units }
+        ensures lines { self.new.lines ≡ self.old.lines }
+        ensures dues { dues self.new.events ≡ dues self.old.events }
+        ensures time { self.new.time ≡ self.old.time }
+        ensures other { IsOwn result }
+        ensures unit { IfSome result HasUnit }
+    {
+        match made {
+            OnLine::Gets(got) => self.answer(unit, got),
+            OnLine::Wru => {
+                let _ = self.answer(unit, Got::NoKey);
+                Some(Stop::Wru)
+            }
+            OnLine::Put(byte) => {
+                let place = watch.expects.printed(byte);
+                let stop = self.answer(unit, Got::Done);
+                match place {
+                    Some(place) => Some(Stop::Expect(place)),
+                    None => stop,
+                }
+            }
+        }
+    }
+
     /// A unit gets an answer.
     fn give(&mut self, unit: UnitName, got: Got) -> After
         requires number { unit.unit < units_of unit.kind }
@@ -216,7 +251,7 @@ impl<U: Unit> Machine<U> {
 }
 
 /// The key that stops a run: control E.
-const WRU: u8 = 5;
+pub(crate) const WRU: u8 = 5;
 
 /// What the machine made of what a unit wants.
 #[derive(Clone, Copy)]

@@ -9,7 +9,7 @@ use Rattle.unit_files.specs.Acts.{Failure}
 use Rattle.memory_transfer.specs.Tapes.{NoAnswer}
 use Rattle.expect_actions.specs.declared.expects.Expect.{Expect}
 use Rattle.expect_actions.specs.Breaks.{BreakTable, table as break_table, after_test}
-use Rattle.expect_actions.specs.Expects.{table, after_printed}
+use Rattle.expect_actions.specs.Expects.{ExpectTable, table, after_printed}
 use Rattle.expect_actions.specs.Watch.{WatchState, empty_watch, forgotten}
 use Rattle.nova_machine.specs.declared.machine.Stop.{Stop}
 use Rattle.nova_machine.specs.Notes.{RunNote}
@@ -17,11 +17,12 @@ use Rattle.nova_machine.specs.Seen.{Seen}
 use Rattle.nova_machine.specs.Parts.{Part, followed}
 use Rattle.nova_machine.specs.Wants.{watch_after}
 use Rattle.nova_machine.specs.OnLines.{Lined}
-use Rattle.nova_machine.specs.Service.{replied, hosted, own_service, line_service, behind_line, service, taken, want_at}
+use Rattle.nova_machine.specs.Service.{replied, hosted, own_service, line_service, behind_line, lined_at, around, service, taken, want_at}
 use Rattle.nova_machine.specs.Turn.{breaks_tested}
 use Rattle.nova_machine.specs.Run.{run}
 use Rattle.nova_machine.proofs.Walks.{OfRuns, walk-run}
 use Rattle.nova_machine.proofs.EachService.{each-service}
+use Rattle.nova_machine.proofs.EachLine.{lined-waits}
 
 -- no break and no expect, and no actions of a stop; which bytes were printed, and which wait for the keyboard, is not said
 pub record IsUnwatched (w : WatchState) : Type 0 where
@@ -78,12 +79,17 @@ keeps-own : (fault : Option Failure) (u : UnitName) (s : Seen) → KeepsUnwatche
 unfolding own_service hosted
 keeps-own fault u s is = keeps-replied u _ _ (hosted fault u s) (wanted-unwatched s.machine.time (want_at u s.machine) s.watch is)
 
-keeps-line : (u : UnitName) (l : Lined) (s : Seen) → KeepsUnwatched s (line_service u l s)
+-- a byte that was put on the console line is compared with no text
+keeps-line : (u : UnitName) (l : Lined) (s : Seen) → lined_at u s ≡ Some l → KeepsUnwatched s (line_service u l s)
 unfolding line_service
-keeps-line u l s is = keeps-replied u None (Ok l.got) (behind_line u l s) is
+keeps-line u l s there is =
+    let t = s.watch.expects in
+    let waits = lined-waits (λ (x : ExpectTable). (x.list ≡ []) × (x.actions ≡ [])) (want_at u s.machine) (around s) l (is.expects, is.actions)
+    (λ byte. (printed-list byte t.list t.tail t.actions is.expects, printed-actions byte t.list t.tail t.actions is.expects is.actions)) there in
+    keeps-replied u l.stop (Ok l.got) (behind_line u l s) (record { breaks = is.breaks; expects = waits.0; actions = waits.1 })
 
 keeps-service : (fault : Option Failure) (u : UnitName) (s : Seen) → KeepsUnwatched s (service fault u (taken s))
-keeps-service fault u s = each-service (KeepsUnwatched s) fault u (taken s) (keeps-own fault u (taken s)) (λ l there. keeps-line u l (taken s))
+keeps-service fault u s = each-service (KeepsUnwatched s) fault u (taken s) (keeps-own fault u (taken s)) (λ l there. keeps-line u l (taken s) there)
 
 -- ---- a run
 

@@ -13,7 +13,7 @@ returns-then-is_plain-clause-told g c = λ told lt whole first.
     plain-whole None c.args.watch.now c.args.keys.now (g.F.Files.state c.args.files.now).files (g.L.Lines.state c.args.lines.now) whole c.args.self.now g.S.Sink.tells (output (g.S.Sink.written c.args.out.now) (g.L.Lines.state c.args.lines.now).sent) (c.is_plain.ensures c.if-is_plain.true)
 
 pub returns-then-is_plain-clause-watches : goal.returns-then-is_plain-clause-watches
-returns-then-is_plain-clause-watches g c = watches-still None _ _ g.S.Sink.tells (g.S.Sink.written c.args.out.now) tt refl refl
+returns-then-is_plain-clause-watches g c = watches-still None _ _ g.S.Sink.tells (g.S.Sink.written c.args.out.now) tt refl refl refl
 
 pub returns-then-is_plain-clause-lines : goal.returns-then-is_plain-clause-lines
 returns-then-is_plain-clause-lines g c = lines-stay g.L.Lines.tells (g.L.Lines.state c.args.lines.now) c.args.self.now.lines

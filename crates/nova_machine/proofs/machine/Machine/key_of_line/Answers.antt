@@ -7,7 +7,7 @@ use Rattle.unit_trait.specs.declared.calls.Got.{Got}
 use Rattle.unit_trait.specs.declared.calls.Want.TheVariants as want
 use Rattle.unit_list.specs.Bus.{kinds_of}
 use Rattle.nova_machine.specs.Machine.{MachineState}
-use Rattle.nova_machine.specs.OnLines.{lined}
+use Rattle.nova_machine.specs.OnLines.{lined, around_at}
 use Rattle.nova_machine.specs.LineChanges.{AreLinesTold, LinesGoOn, DoneOnLine}
 use Rattle.nova_machine.proofs.LineSteps.{StepsAt, lines-stay, one-goes-on, done-no-key, done-poll, hears-poll}
 use Rattle.nova_machine.proofs.LinesThere.{set-has}
@@ -17,12 +17,12 @@ pub returns-then-number-len-clause-lines : goal.returns-then-number-len-clause-l
 returns-then-number-len-clause-lines g c = lines-stay g.L.Lines.tells (g.L.Lines.state c.args.lines.now) c.args.self.now.lines
 
 pub returns-then-number-len-clause-told : goal.returns-then-number-len-clause-told
-returns-then-number-len-clause-told g c = λ told whole first.
+returns-then-number-len-clause-told g c = λ told whole first due expects.
     let items = c.self.inside.lines.items in
     let past : length items ≤ c.args.number = search rules in
     let none : slice_get c.args.self.now.lines (suc c.args.number) ≡ None =
     ap (λ (m : MachineState). slice_get m.lines (suc c.args.number)) (sym c.self.view_is) ∙ slice_get_past items c.args.number past in
-    done-no-key c.args.self.now.time c.args.number (g.L.Lines.state c.args.lines.now) c.args.self.now.lines whole none
+    done-no-key c.args.self.now.time c.args.number due expects (g.L.Lines.state c.args.lines.now) c.args.self.now.lines whole none
 
 pub returns-clause-lines : goal.returns-clause-lines
 returns-clause-lines g c =
@@ -49,7 +49,7 @@ returns-clause-lines g c =
     (one-goes-on g.L.Lines.tells (suc n) old ls line new c.poll-key.new.self step)
 
 pub returns-clause-told : goal.returns-clause-told
-returns-clause-told g c = λ told whole first.
+returns-clause-told g c = λ told whole first due expects.
     let old = g.L.Lines.state c.args.lines.now in
     let new = g.L.Lines.state c.poll-key.new.lines in
     let items = c.self.inside.lines.items in
@@ -73,10 +73,10 @@ returns-clause-told g c = λ told whole first.
       heard = λ tells. hears-poll _ _ old new line after (poll.told tells);
     } in
     let told-of : AreLinesTold g.L.Lines.tells old ls = subst (λ (x : List (LineOf ℕ)). AreLinesTold g.L.Lines.tells old x) (sym is) told in
-    let done = done-poll g.L.Lines.tells c.self.inside.time n old new ls line after c.poll-key.result whole step poll.told (λ none. let still = poll.idle none in (still.0, still.1)) told-of first in
-    let R : Got → Type 0 = λ r. DoneOnLine (lined c.self.inside.time (want.LineKey n) (map (seen_line old) ls) (ahead_of old.told whole)) (Some r) whole old new (slice_set ls (suc n) after) in
-    let T : ℕ → Type 0 = λ t. DoneOnLine (lined t (want.LineKey n) (map (seen_line old) ls) (ahead_of old.told whole)) (Some c.got_of.result) whole old new (slice_set ls (suc n) after) in
-    let P : List (LineOf ℕ) → Type 0 = λ x. DoneOnLine (lined time (want.LineKey n) (map (seen_line old) x) (ahead_of old.told whole)) (Some c.got_of.result) whole old new (slice_set ls (suc n) after) in
+    let done = done-poll g.L.Lines.tells c.self.inside.time n due expects old new ls line after c.poll-key.result whole step poll.told (λ none. let still = poll.idle none in (still.0, still.1)) told-of first in
+    let R : Got → Type 0 = λ r. DoneOnLine (lined (want.LineKey n) (around_at c.self.inside.time due expects (map (seen_line old) ls) (ahead_of old.told whole))) (Some r) whole old new (slice_set ls (suc n) after) in
+    let T : ℕ → Type 0 = λ t. DoneOnLine (lined (want.LineKey n) (around_at t due expects (map (seen_line old) ls) (ahead_of old.told whole))) (Some c.got_of.result) whole old new (slice_set ls (suc n) after) in
+    let P : List (LineOf ℕ) → Type 0 = λ x. DoneOnLine (lined (want.LineKey n) (around_at time due expects (map (seen_line old) x) (ahead_of old.told whole))) (Some c.got_of.result) whole old new (slice_set ls (suc n) after) in
     subst P is (subst T now (subst R (sym c.got_of.ensures.got) done))
 
 pub invariant_of-self : goal.invariant_of-self

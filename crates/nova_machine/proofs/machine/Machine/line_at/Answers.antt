@@ -1,4 +1,4 @@
-use Rattle.std.proofs.Common.{◌≡◌, ◌∙◌, ap, subst, ℕ, nat_lt, List, length}
+use Rattle.std.proofs.Common.{◌∙◌, ap, subst, ℕ, nat_lt, List, length}
 use Rattle.telnet_lines.specs.Line.{LineOf}
 use Rattle.unit_list.specs.Bus.{kinds_of}
 use Rattle.nova_machine.specs.Machine.{MachineState, HasItsLines}

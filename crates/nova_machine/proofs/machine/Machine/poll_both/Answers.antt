@@ -7,6 +7,7 @@ use Rattle.nova_machine.specs.LineChanges.{LinesGoOn}
 use Rattle.nova_machine.specs.LineLooks.{second_keyboard, first_looked, IsAhead}
 use Rattle.nova_machine.proofs.Idling.{looked-slots, looked-lines, looked-time}
 use Rattle.nova_machine.proofs.LineLooks.{silent-ahead, key-ahead, nothing-ahead, looked-again, looked-kinds, looked-taken}
+use Rattle.nova_machine.proofs.Serving.{due_of}
 use Rattle.nova_machine.proofs.ServiceCauses.{answered-taken}
 use Rattle.nova_machine.specs.Steps.{Services, no_services}
 use Rattle.nova_machine.proofs.Steps.{silent-looks, key-looks}
@@ -23,7 +24,7 @@ returns-in-None-clause-told g c = λ told watch keys keyless.
 pub returns-in-None-key_in-clause-told : goal.returns-in-None-key_in-clause-told
 returns-in-None-key_in-clause-told g c = λ told watch keys keyless.
     silent-ahead c.args.period watch keys (g.L.Lines.state c.args.lines.now) (g.L.Lines.state c.key_of_line.new.lines) c.args.self.now c.key_of_line.new.self c.look.new.self c.in-Some.got
-    c.requires.looking keyless c.requires.early c.in-Some.ensures.machine c.look.ensures (c.in-None-key_in.ensures c.in-Some.ensures.poll) (c.in-Some.ensures.told told)
+    c.requires.looking keyless c.requires.early c.in-Some.ensures.machine c.look.ensures (c.in-None-key_in.ensures c.in-Some.ensures.poll) (λ whole first. c.in-Some.ensures.told told whole first (due_of watch keys c.args.self.now) watch.expects)
 
 pub returns-in-None-key_in-clause-again : goal.returns-in-None-key_in-clause-again
 returns-in-None-key_in-clause-again g c =
@@ -60,7 +61,7 @@ pub returns-in-Some-key_in-clause-told : goal.returns-in-Some-key_in-clause-told
 returns-in-Some-key_in-clause-told g c = λ told watch keys keyless.
     key-ahead c.args.period watch keys (g.L.Lines.state c.args.lines.now) (g.L.Lines.state c.key_of_line.new.lines) c.args.self.now c.key_of_line.new.self c.take_key_of_line.new.self c.in-Some.got
     c.in-Some-key_in.key c.requires.looking keyless c.requires.early c.in-Some.ensures.machine c.take_key_of_line.ensures.machine c.take_key_of_line.ensures.time c.take_key_of_line.ensures.dues
-    (c.in-Some-key_in.ensures c.in-Some.ensures.poll) (c.in-Some.ensures.told told)
+    (c.in-Some-key_in.ensures c.in-Some.ensures.poll) (λ whole first. c.in-Some.ensures.told told whole first (due_of watch keys c.args.self.now) watch.expects)
 
 pub returns-in-Some-key_in-clause-taken : goal.returns-in-Some-key_in-clause-taken
 returns-in-Some-key_in-clause-taken g c =

@@ -14,6 +14,7 @@ use Rattle.nova_machine.proofs.Runs.{last-of, turn-of, ended-of, expired-of, not
 use Rattle.nova_processor.specs.declared.burst.BurstEnd.{BurstEnd}
 use Rattle.nova_machine.specs.StopCauses.{moment_of, BurstCause}
 use Rattle.nova_machine.proofs.Causes.{watches-still, watches-then, watches-left}
+use Rattle.nova_machine.proofs.ConsoleSteps.{ported-same}
 use Rattle.nova_machine.proofs.RunCauses.{run-stopped, run-expired, expired-no-match}
 use Rattle.nova_machine.specs.declared.machine.Stop.{Stop}
 use Rattle.nova_machine.specs.Steps.{Turns, no_turns, one_turn, IsRun, expires, time_ends, turn_stops}
@@ -134,7 +135,7 @@ turns-preserved g c =
       watches =
           let text = g.S.Sink.written in
           watches-left None None (moment_of c.args.watch.now c.args.self.now) (moment_of c.turn.new.watch c.turn.new.self) (moment_of c.turn.new.watch c.go_on-burst.new.self) g.S.Sink.tells
-          (text c.args.out.now) (text c.turn.new.out) refl tt refl c.go_on-burst.ensures.taken
+          (text c.args.out.now) (text c.turn.new.out) refl tt refl c.go_on-burst.ensures.taken (ported-same c.turn.new.self.lines c.go_on-burst.new.self.lines c.go_on-burst.ensures.lines.ports)
           (watches-then None (moment_of c.args.watch.now c.args.self.now) (moment_of c.turns.watch c.turns.self) (moment_of c.turn.new.watch c.turn.new.self) g.S.Sink.tells
           (text c.args.out.now) (text c.turns.out) (text c.turn.new.out) c.turns.invariant.watches c.in-Executed.ensures.watches);
       within =
@@ -179,7 +180,7 @@ turns-init g c = record {
   is_open = c.requires.«open»;
   counts = refl;
   quiet = quiet-same (g.F.Files.state c.args.files.now);
-  watches = watches-still None (moment_of c.args.watch.now c.args.self.now) (moment_of c.args.watch.now c.args.self.now) g.S.Sink.tells (g.S.Sink.written c.args.out.now) tt refl refl;
+  watches = watches-still None (moment_of c.args.watch.now c.args.self.now) (moment_of c.args.watch.now c.args.self.now) g.S.Sink.tells (g.S.Sink.written c.args.out.now) tt refl refl refl;
   within = record { rest = refl; later = omega arith; began = λ e. absurd (cc) };
   steps = no_turns;
 }
@@ -187,7 +188,7 @@ turns-init g c = record {
 pub returns-then-self-eq-LAST_TIME-clause-watches : goal.returns-then-self-eq-LAST_TIME-clause-watches
 returns-then-self-eq-LAST_TIME-clause-watches g c =
     watches-left (Some Limit) None (moment_of c.args.watch.now c.args.self.now) (moment_of c.turns.watch c.turns.self) (moment_of c.turns.watch c.turns.self) g.S.Sink.tells
-    (g.S.Sink.written c.args.out.now) (g.S.Sink.written c.turns.out) refl tt refl refl c.turns.invariant.watches
+    (g.S.Sink.written c.args.out.now) (g.S.Sink.written c.turns.out) refl tt refl refl refl c.turns.invariant.watches
 
 pub returns-then-self-eq-LAST_TIME-clause-cause : goal.returns-then-self-eq-LAST_TIME-clause-cause
 returns-then-self-eq-LAST_TIME-clause-cause g c =
@@ -213,7 +214,7 @@ pub returns-in-ChainLimit-clause-watches : goal.returns-in-ChainLimit-clause-wat
 returns-in-ChainLimit-clause-watches g c =
     let text = g.S.Sink.written in
     watches-left (Some ChainLimit) None (moment_of c.args.watch.now c.args.self.now) (moment_of c.turn.new.watch c.turn.new.self) (moment_of c.turn.new.watch c.go_on-burst.new.self) g.S.Sink.tells
-    (text c.args.out.now) (text c.turn.new.out) refl tt refl c.go_on-burst.ensures.taken
+    (text c.args.out.now) (text c.turn.new.out) refl tt refl c.go_on-burst.ensures.taken (ported-same c.turn.new.self.lines c.go_on-burst.new.self.lines c.go_on-burst.ensures.lines.ports)
     (watches-then None (moment_of c.args.watch.now c.args.self.now) (moment_of c.turns.watch c.turns.self) (moment_of c.turn.new.watch c.turn.new.self) g.S.Sink.tells
     (text c.args.out.now) (text c.turns.out) (text c.turn.new.out) c.turns.invariant.watches c.in-Executed.ensures.watches)
 
@@ -233,7 +234,7 @@ returns-in-ChainLimit-clause-cause g c =
 pub returns-clause-watches : goal.returns-clause-watches
 returns-clause-watches g c =
     watches-left (Some c.expired.result) None (moment_of c.args.watch.now c.args.self.now) (moment_of c.turns.watch c.turns.self) (moment_of c.turns.watch c.turns.self) g.S.Sink.tells
-    (g.S.Sink.written c.args.out.now) (g.S.Sink.written c.turns.out) refl (expired-no-match c.expired.result c.args.limit.step c.expired.ensures.stop) refl refl c.turns.invariant.watches
+    (g.S.Sink.written c.args.out.now) (g.S.Sink.written c.turns.out) refl (expired-no-match c.expired.result c.args.limit.step c.expired.ensures.stop) refl refl refl c.turns.invariant.watches
 
 pub returns-clause-cause : goal.returns-clause-cause
 returns-clause-cause g c =

@@ -5,6 +5,7 @@ use Rattle.nova_machine.specs.Notes.{unit_note, failure_of_stop}
 use Rattle.nova_machine.specs.Seen.{seen, beside}
 use Rattle.host_lines.specs.Told.{record_in}
 use Rattle.telnet_lines.specs.Line.{LineOf}
+use Rattle.nova_machine.specs.OnLines.{is_ported}
 use Rattle.unit_files.specs.Acts.{Failure}
 use Rattle.nova_machine.specs.Service.{service}
 use Rattle.nova_machine.specs.LineChanges.{AreLinesTold, LinesGoOn}
@@ -54,7 +55,7 @@ events-init g c = record {
   is_open = c.requires.«open»;
   counts = refl;
   quiet = quiet-same (g.F.Files.state c.args.files.now);
-  watches = watches-still None (moment_of c.args.watch.now c.args.self.now) (moment_of c.args.watch.now c.args.self.now) g.S.Sink.tells (g.S.Sink.written c.args.out.now) tt refl refl;
+  watches = watches-still None (moment_of c.args.watch.now c.args.self.now) (moment_of c.args.watch.now c.args.self.now) g.S.Sink.tells (g.S.Sink.written c.args.out.now) tt refl refl refl;
   breaks = refl;
   steps = no_services;
 }
@@ -106,7 +107,7 @@ events-preserved g c =
           let text = g.S.Sink.written in
           let taken : c.take_due.new.self.taken ≡ c.events.self.taken = ap (λ (m : MachineState). m.taken) c.take_due.ensures.taken in
           watches-goes None None _ (moment_of c.events.watch c.events.self) (moment_of c.events.watch c.take_due.new.self) _ g.S.Sink.tells (text c.args.out.now) (text c.events.out) (text c.serve_unit.new.out)
-          refl refl taken c.events.invariant.watches (subst (λ (o : Option Stop). Watches o (moment_of c.events.watch c.take_due.new.self) (moment_of c.serve_unit.new.watch c.serve_unit.new.self) g.S.Sink.tells
+          refl refl taken (ap (λ (ls : List (LineOf ℕ)). is_ported ls) c.take_due.ensures.lines) c.events.invariant.watches (subst (λ (o : Option Stop). Watches o (moment_of c.events.watch c.take_due.new.self) (moment_of c.serve_unit.new.watch c.serve_unit.new.self) g.S.Sink.tells
           (text c.events.out) (text c.serve_unit.new.out)) goes c.serve_unit.ensures.watches);
       breaks = c.serve_unit.ensures.breaks ∙ c.events.invariant.breaks;
       steps =
@@ -132,7 +133,7 @@ returns-in-Some-serve_unit-clause-watches g c =
     let text = g.S.Sink.written in
     let taken : c.take_due.new.self.taken ≡ c.events.self.taken = ap (λ (m : MachineState). m.taken) c.take_due.ensures.taken in
     watches-goes (Some c.in-Some-serve_unit.stop) None _ (moment_of c.events.watch c.events.self) (moment_of c.events.watch c.take_due.new.self) _ g.S.Sink.tells (text c.args.out.now) (text c.events.out)
-    (text c.serve_unit.new.out) refl refl taken c.events.invariant.watches c.in-Some-serve_unit.ensures.watches
+    (text c.serve_unit.new.out) refl refl taken (ap (λ (ls : List (LineOf ℕ)). is_ported ls) c.take_due.ensures.lines) c.events.invariant.watches c.in-Some-serve_unit.ensures.watches
 
 pub returns-in-Some-serve_unit-clause-cause : goal.returns-in-Some-serve_unit-clause-cause
 returns-in-Some-serve_unit-clause-cause g c =
@@ -141,7 +142,7 @@ returns-in-Some-serve_unit-clause-cause g c =
     let before = moment_of c.args.watch.now c.args.self.now in
     let mid = moment_of c.events.watch c.take_due.new.self in
     service-then (Some c.in-Some-serve_unit.stop) c.args.keys.now before mid c.serve_unit.new.watch c.serve_unit.new.self g.S.Sink.tells (text c.args.out.now) (text c.events.out)
-    (watches-left None None before (moment_of c.events.watch c.events.self) mid g.S.Sink.tells (text c.args.out.now) (text c.events.out) refl tt refl taken c.events.invariant.watches)
+    (watches-left None None before (moment_of c.events.watch c.events.self) mid g.S.Sink.tells (text c.args.out.now) (text c.events.out) refl tt refl taken (ap (λ (ls : List (LineOf ℕ)). is_ported ls) c.take_due.ensures.lines) c.events.invariant.watches)
     c.in-Some-serve_unit.ensures.cause
 
 pub returns-in-Some-serve_unit-clause-breaks : goal.returns-in-Some-serve_unit-clause-breaks
@@ -152,7 +153,7 @@ returns-clause-watches g c =
     let text = g.S.Sink.written in
     let taken : c.take_due.new.self.taken ≡ c.events.self.taken = ap (λ (m : MachineState). m.taken) c.take_due.ensures.taken in
     watches-left None None (moment_of c.args.watch.now c.args.self.now) (moment_of c.events.watch c.events.self) (moment_of c.events.watch c.take_due.new.self) g.S.Sink.tells (text c.args.out.now) (text c.events.out)
-    refl tt refl taken c.events.invariant.watches
+    refl tt refl taken (ap (λ (ls : List (LineOf ℕ)). is_ported ls) c.take_due.ensures.lines) c.events.invariant.watches
 
 pub returns-clause-breaks : goal.returns-clause-breaks
 returns-clause-breaks g c = c.events.invariant.breaks
