@@ -1,5 +1,5 @@
 -- A session at rest can be saved, and what is saved of it fits the fields of a state file.
-use Rattle.std.proofs.Common.{◌≡◌, ◌≢◌, ℕ, zero, suc, ◌<◌, ◌≤◌, ◌^◌, List, [], ◌∷◌, ◌++◌, length, map, Option, Some, None, IfSome, sym, subst, arith}
+use Rattle.std.proofs.Common.{◌≡◌, ◌≢◌, ℕ, zero, suc, ◌<◌, ◌≤◌, ◌^◌, List, [], ◌∷◌, ◌++◌, length, map, Option, Some, None, IfSome, refl, sym, subst, arith}
 use Rattle.std.specs.Prelude.{get_or, unwrap_or, slice_get}
 use Rattle.std.specs.Str.{bytes_eq}
 use Rattle.std.specs.List.{AllByRecursion}
@@ -19,8 +19,9 @@ use Rattle.nova_machine.specs.Seen.{erased, attached_in}
 use Rattle.nova_machine.specs.Valid.{IsByteName, HasByteName, ValidBreak, ValidExpect, ValidWatch, IsPort, ValidLine}
 use Rattle.saved_files.specs.declared.taking.UnitPlace.{UnitPlace}
 use Rattle.saved_session.specs.Parts.{FilePart}
-use Rattle.state_text.specs.Laws.{FileHasWidths, BreakHasWidths, ExpectHasWidths, SendHasWidths, HasWidths}
-use Rattle.saved_session.specs.Valid.{BreaksFit, ExpectsFit, WatchFits, IsMachine}
+use Rattle.state_text.specs.Laws.{HasWidths}
+use Rattle.state_text.proofs.LooseLaws.{FileHasWidths, BreakHasWidths, ExpectHasWidths, SendHasWidths, session_widths}
+use Rattle.saved_session.specs.Valid.{BreaksFit, ExpectsFit, WatchFits, Fits}
 use Rattle.state_transfer.specs.PutBack.{IsIdleLine}
 use Rattle.saved_files.specs.Taking.{unit_at, file_places, saved_file, saved_at, saved_files}
 use Rattle.state_transfer.specs.Session.{saved_machine, port_number, port_of, saved_port}
@@ -31,7 +32,6 @@ use Rattle.state_transfer.proofs.TakenFits.{machine-fits}
 use Rattle.command_session.specs.Live.{Live}
 use Rattle.command_laws.specs.Valid.{IsProgramMachine, ValidLive}
 use Rattle.command_laws.specs.Resumption.{saved_among, HasNobody, HaveLengths, IsAtRest, IsSavable}
-use Rattle.command_laws.proofs.OwnTexts.{cpu-widths, units-widths, events-widths}
 
 -- ---- the files
 
@@ -79,10 +79,11 @@ record FitsPart (f : FilePart) : Type 0 where
 
 part-fits : (files : List NamedBytes) (p : UnitPlace) (a : Attachment) → HaveLengths files → IsLow p → IsByteName a.name → FitsPart (saved_file p a (bytes_of files a.name))
 part-fits files p a all low named =
-    let short = named.short in
+    let few = named.short in
+    let short : length a.name < 2 ^ 16 = omega (arith, few) in
     record {
-      name = omega (arith, short);
-      widths = file-widths p a (bytes_of files a.name) low.0 low.1 named.bytes (measured files a.name all);
+      name = short;
+      widths = file-widths p a (bytes_of files a.name) low.0 low.1 short named.bytes (measured files a.name all);
     }
 
 name-at : (slots : List (Option Held)) (place : ℕ) → AllByRecursion HasByteName slots → IfSome (get_or (attachments_of slots) place None) (λ (a : Attachment). IsByteName a.name)
@@ -119,7 +120,9 @@ breaks-fit (b ∷ bs) all = let short = all.0.actions.short in (omega (arith, sh
 
 breaks-widths : (bs : List Break) → AllByRecursion ValidBreak bs → AllByRecursion BreakHasWidths (map saved_break bs)
 breaks-widths [] all = tt
-breaks-widths (b ∷ bs) all = let low = all.0.address in (record { address = omega (arith, low); count = all.0.count; actions = all.0.actions.bytes }, breaks-widths bs all.1)
+breaks-widths (b ∷ bs) all =
+    let low = all.0.address in let short = all.0.actions.short in
+    (((omega (arith, low), refl), ((all.0.count, refl), ((omega (arith, short), refl), (all.0.actions.bytes, refl)))), breaks-widths bs all.1)
 
 expects-fit : (es : List Expect) → AllByRecursion ValidExpect es → ExpectsFit (map saved_expect es)
 expects-fit [] all = tt
@@ -127,11 +130,13 @@ expects-fit (e ∷ es) all = let long = all.0.long in let short = all.0.actions.
 
 expects-widths : (es : List Expect) → AllByRecursion ValidExpect es → AllByRecursion ExpectHasWidths (map saved_expect es)
 expects-widths [] all = tt
-expects-widths (e ∷ es) all = (record { count = all.0.count; text = all.0.text; actions = all.0.actions.bytes }, expects-widths es all.1)
+expects-widths (e ∷ es) all =
+    let long = all.0.long in let short = all.0.actions.short in
+    (((all.0.count, refl), (((omega (arith, long), refl), (all.0.text, refl)), ((omega (arith, short), refl), (all.0.actions.bytes, refl)))), expects-widths es all.1)
 
 sends-widths : (sends : List Send) → InTime sends → AllByRecursion (λ (send : Send). send.1 < 2 ^ 8) sends → AllByRecursion SendHasWidths (map saved_send sends)
 sends-widths [] times bytes = tt
-sends-widths (send ∷ sends) times bytes = let most = times.0 in (record { time = omega (arith, most); byte = bytes.0 }, sends-widths sends times.2 bytes.1)
+sends-widths (send ∷ sends) times bytes = let most = times.0 in (((omega (arith, most), refl), (bytes.0, refl)), sends-widths sends times.2 bytes.1)
 
 watch-fits : (w : WatchState) → ValidWatch w → WatchFits (saved_watch w)
 unfolding saved_watch
@@ -181,23 +186,28 @@ erased-same : (m : MachineState) → IsProgramMachine m → erased m ≡ m
 erased-same m is =
     λ i. record m { slots = is.numbers i; aside = sym is.aside i; lines = sym is.lines i }
 
+fits : (s : Live) (files : List NamedBytes) → ValidLive s → AllByRecursion FitsPart (saved_files files (attached_in s.machine) file_places) → Fits (saved_among files s)
+fits s files is parts =
+    let valid = is.valid in
+    record {
+      machine = machine-fits s.machine valid.machine.memory valid.machine.size valid.machine.core is.machine.units;
+      files = few-saved files (attached_in s.machine);
+      names = every-gives FitsPart (λ (f : FilePart). length f.name < 2 ^ 16) (saved_files files (attached_in s.machine) file_places) (λ f x. x.name) parts;
+      watch = watch-fits s.watch valid.watch;
+    }
+
 widths : (s : Live) (files : List NamedBytes) → ValidLive s → AllByRecursion FitsPart (saved_files files (attached_in s.machine) file_places) → HasWidths (saved_among files s)
 unfolding saved_machine saved_watch
 widths s files is parts =
     let valid = is.valid in
-    let m : IsMachine (saved_machine s.machine) = machine-valid s.machine valid.machine is.time valid.taken is.machine.units in
-    record {
-      cpu = cpu-widths _ m.cpu;
-      words = m.words;
-      units = units-widths 0 _ m.units;
-      agenda = events-widths [] _ m.agenda;
-      files = every-gives FitsPart FileHasWidths (saved_files files (attached_in s.machine) file_places) (λ f x. x.widths) parts;
-      port = port-low s.lines valid.lines;
+    session_widths (saved_among files s) (machine-valid s.machine valid.machine is.time valid.taken is.machine.units) (fits s files is parts)
+    (every-gives FitsPart FileHasWidths (saved_files files (attached_in s.machine) file_places) (λ f x. x.widths) parts) (port-low s.lines valid.lines)
+    (record {
       breaks = breaks-widths s.watch.breaks.list valid.watch.each;
       expects = expects-widths s.watch.expects.list valid.watch.texts;
       tail = valid.watch.printed;
       sends = sends-widths s.watch.sends valid.watch.in_time valid.watch.bytes;
-    }
+    })
 
 pub savable : (s : Live) (files : List NamedBytes) → IsAtRest s → HaveLengths files → IsSavable files s
 savable s files rest all =
@@ -217,11 +227,6 @@ savable s files rest all =
         others = is.ports.others;
         idle = idle-lines s.lines valid.lines rest.nobody;
       };
-      fits = record {
-        machine = machine-fits s.machine valid.machine.memory valid.machine.size valid.machine.core is.machine.units;
-        files = few-saved files (attached_in s.machine);
-        names = every-gives FitsPart (λ (f : FilePart). length f.name < 2 ^ 16) (saved_files files (attached_in s.machine) file_places) (λ f x. x.name) parts;
-        watch = watch-fits s.watch valid.watch;
-      };
+      fits = fits s files is parts;
       widths = widths s files is parts;
     }

@@ -1,6 +1,5 @@
 pub mod RefusalLemmas
 pub mod AtRest
-pub mod OwnTexts
 pub mod PassedBreaks
 pub mod ResetLemmas
 pub mod ResumptionLemmas

@@ -49,7 +49,8 @@ use Rattle.command_session.specs.Occupied.{is_occupied}
 use Rattle.scp_commands.specs.Effect.{effect}
 use Rattle.command_laws.proofs.AtRest.{savable}
 use Rattle.command_laws.proofs.OwnLines.{two-lines}
-use Rattle.command_laws.proofs.OwnTexts.{valid-widths, read-own}
+use Rattle.state_text.proofs.LooseLaws.{valid_widths}
+use Rattle.state_text.proofs.OwnTexts.{read_own}
 use Rattle.command_laws.specs.Resumption.{done_with, left_by_save, ahead_behind, continued, saved_among, HoldsSaved, IsSavable, IsRestored, RestorePutsBack}
 
 -- ---- a file that is read whole
@@ -198,7 +199,7 @@ module _ (live s : Live) (then_files : List NamedBytes) (name : List ℕ) (holds
   by-state : (bytes : List ℕ) → bytes ≡ bytes_of live.files name → (force : Bool) (used : ℕ) (notes : List CommandNote) (r : Result State StateFault) → reading bytes ≡ r → Puts (restored_as force used notes r live) used
   by-state bytes is force used notes (Err fault) read = λ done. absurd (cc)
   by-state bytes is force used notes (Ok v) read =
-      let same : v ≡ what = read-own what v can.fits can.widths (ap reading (sym (is ∙ holds.bytes)) ∙ read) in
+      let same : v ≡ what = read_own what v can.fits can.widths (ap reading (sym (is ∙ holds.bytes)) ∙ read) in
       subst (λ (w : State). Puts (restored_as force used notes (Ok w) live) used) (sym same)
       (by-files (first_refused (unit_claim live.machine.time notes) force what.files no_attachments live.files) used)
 
@@ -239,7 +240,7 @@ module _ (live s : Live) (then_files : List NamedBytes) (name : List ℕ) (holds
       → (restored_as force used notes r live).answer ≡ Ok Go → Attached force notes
   state-attached bytes is force used notes (Err fault) read = λ done. absurd (cc)
   state-attached bytes is force used notes (Ok v) read =
-      let same : v ≡ what = read-own what v can.fits can.widths (ap reading (sym (is ∙ holds.bytes)) ∙ read) in
+      let same : v ≡ what = read_own what v can.fits can.widths (ap reading (sym (is ∙ holds.bytes)) ∙ read) in
       subst (λ (w : State). (restored_as force used notes (Ok w) live).answer ≡ Ok Go → Attached force notes) (sym same)
       (by-attached (first_refused (unit_claim live.machine.time notes) force what.files no_attachments live.files) used)
 
@@ -361,7 +362,7 @@ restore-puts-back = record {
   restored = λ limit notes live s force name then_files used is holds same line. is-restored live s then_files name holds same line limit notes force used is;
   alone = λ limit notes live s force name then_files used is holds same line. is-alone live s then_files name holds same line limit notes force used is;
   unoccupied = is-unoccupied;
-  standard = λ s is. (saved-is-valid.fits s is, valid-widths (saved s) (saved-is-valid.valid s is));
+  standard = λ s is. (saved-is-valid.fits s is, valid_widths (saved s) (saved-is-valid.valid s is));
   saved = is-saved;
   holds = is-held;
 }

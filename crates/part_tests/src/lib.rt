@@ -1,5 +1,5 @@
-//! Tests of the parts that work without files: texts and their grammar, what is watched, the assembler, the processor and what it
-//! works on, events and devices.
+//! Tests of the parts that work without files: texts and their grammar, texts by a layout, what is watched, the assembler, the
+//! processor and what it works on, events and devices.
 #![tactic(auto)]
 
 #[cfg(test)]
@@ -10,6 +10,8 @@ mod checked;
 mod devices;
 #[cfg(test)]
 mod grammar;
+#[cfg(test)]
+mod layouts;
 #[cfg(test)]
 mod processor;
 #[cfg(test)]

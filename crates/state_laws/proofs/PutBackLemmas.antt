@@ -34,7 +34,8 @@ use Rattle.saved_files.specs.Putting.{attachment_of, with_all, copy_of}
 use Rattle.saved_files.specs.Taking.{unit_at, file_places, flag_of, saved_file, saved_at, saved_files}
 use Rattle.state_transfer.specs.Session.{saved_unit, saved_event, saved_machine, port_number, port_of, saved_port, saved}
 use Rattle.saved_session.specs.SavedWatch.{saved_break, saved_expect, saved_send, saved_watch}
-use Rattle.state_transfer.specs.PutBack.{is_set, memory_from, unit_from, unit_named, event_from, held_from, machine_from, port_from, lines_from, put_back, IsIdleLine, CanBeSaved}
+use Rattle.state_transfer.specs.Processor.{is_set}
+use Rattle.state_transfer.specs.PutBack.{memory_from, unit_from, unit_named, event_from, held_from, machine_from, port_from, lines_from, put_back, IsIdleLine, CanBeSaved}
 use Rattle.state_laws.specs.Laws.{SavingPutsBack}
 use Rattle.saved_session.specs.SavedWatch.{break_from, expect_from, send_from, watch_from}
 use Rattle.state_transfer.proofs.TakenSizes.{size-back}

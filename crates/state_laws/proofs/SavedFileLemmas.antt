@@ -13,7 +13,7 @@ use Rattle.unit_files.specs.Attachments.{Attachment, attachment_at, longest_file
 use Rattle.unit_files.specs.Attachments as unit_files
 use Rattle.saved_session.specs.Parts.{FilePart}
 use Rattle.saved_session.specs.Ranges.{kind_at, FilePlace, takes_file_at, is_next_unit, only_writes, is_read_only_of, is_name_length, longest_file_of}
-use Rattle.state_text.specs.Laws.{FileHasWidths}
+use Rattle.state_text.proofs.LooseLaws.{FileHasWidths}
 use Rattle.saved_session.specs.Valid.{AreBytes, Follow, IsFile, AreFiles}
 use Rattle.saved_session.specs.Order.{place_of as file_place, behind_file}
 use Rattle.saved_files.specs.declared.taking.UnitPlace.{UnitPlace}
@@ -94,18 +94,19 @@ small-flag : (b : Bool) → flag_of b < 2 ^ 8
 small-flag true = omega arith
 small-flag false = omega arith
 
--- each field takes what is saved of a file whose name is of bytes and whose length can be told
+-- each field takes what is saved of a file whose name is of bytes, and short, and whose length can be told
 pub file-widths : (p : UnitPlace) (a : Attachment) (bytes : List ℕ) → p.position < 2 ^ 8 → p.unit < 2 ^ 8
-    → AreBytes a.name → length bytes < 2 ^ 64 → FileHasWidths (saved_file p a bytes)
-file-widths p a bytes position unit name size = record {
-  position = position;
-  unit = unit;
-  read_only = small-flag a.read_only;
-  name = name;
-  size = size;
-  digest = length-sha256 bytes;
-  bytes = sha256-bytes bytes;
-}
+    → length a.name < 2 ^ 16 → AreBytes a.name → length bytes < 2 ^ 64 → FileHasWidths (saved_file p a bytes)
+file-widths p a bytes position unit short name size = (
+  (position, refl),
+  (
+    (unit, refl),
+    (
+      (small-flag a.read_only, refl),
+      (((short, refl), (name, refl)), ((size, refl), ((length-sha256 bytes, sha256-bytes bytes), refl))),
+    ),
+  ),
+)
 
 -- ---- all of them
 

@@ -28,7 +28,8 @@ use Rattle.saved_session.specs.Ranges.{is_flag, is_size, is_address, kind_at, st
 use Rattle.saved_session.specs.Valid.{AreWords, Follow, IsCpu, CanHold, IsUnit, IsEvent, IsMachine}
 use Rattle.saved_session.specs.Order.{next_number, with_event}
 use Rattle.saved_files.specs.Taking.{flag_of}
-use Rattle.state_transfer.specs.Session.{saved_cpu, saved_unit, saved_event, saved_machine}
+use Rattle.state_transfer.specs.Session.{saved_unit, saved_event, saved_machine}
+use Rattle.state_transfer.specs.Processor.{saved_cpu}
 use Rattle.state_transfer.specs.SavedValid.{AreStandard}
 use Rattle.state_transfer.proofs.TakenSizes.{size-back, as-many, sound-behind, few-events}
 use Rattle.state_laws.proofs.PutBackLemmas.{kind-back, place-low}

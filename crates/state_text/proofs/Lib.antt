@@ -8,3 +8,4 @@ pub mod FitLaws
 pub mod LooseLaws
 pub mod ByteLaws
 pub mod TellLaws
+pub mod OwnTexts

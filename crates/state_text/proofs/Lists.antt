@@ -31,11 +31,6 @@ pub all_from : {A : Type 0} (H : List A → A → Type 0) (P : A → Type 0) →
 all_from H P one front [] h = tt
 all_from H P one front (x ∷ xs) h = (one front x h.0, all_from H P one (with_last front x) xs h.1)
 
--- what holds of each, and what else does
-pub both_hold : {A : Type 0} (P Q : A → Type 0) (xs : List A) → AllByRecursion P xs → AllByRecursion Q xs → AllByRecursion (λ (x : A). P x × Q x) xs
-both_hold P Q [] h k = tt
-both_hold P Q (x ∷ xs) h k = ((h.0, k.0), both_hold P Q xs h.1 k.1)
-
 -- elements are numbered one behind another
 pub numbers_step : {A : Type 0} (front : List A) (x : A) → length (with_last front x) ≡ next_number (length front) x
 numbers_step front x = omega (arith, length-append front (x ∷ []))

@@ -9,13 +9,13 @@ use Rattle.saved_session.proofs.RegisterCounts.{few_registers}
 use Rattle.saved_session.specs.declared.saved.SavedCpu.{SavedCpu}
 use Rattle.saved_session.specs.declared.saved.SavedEvent.{SavedEvent}
 use Rattle.saved_session.specs.declared.saved.SavedSend.{SavedSend}
-use Rattle.saved_session.specs.Parts.{UnitPart, FilePart, BreakPart, ExpectPart, State}
+use Rattle.saved_session.specs.Parts.{UnitPart, FilePart, BreakPart, ExpectPart, MachinePart, State}
 use Rattle.saved_session.specs.Ranges.{is_flag, is_size, is_address, is_time, is_key_count, kind_at, is_position, register_count, standard_kinds, most_events, is_free, is_read_only_of, only_writes, is_name_length, longest_file_of, is_file_length, most_breaks, longest_actions, most_expects, is_text_length, longest_text, most_sends, last_send}
 use Rattle.saved_session.specs.Order.{next_number, with_event, behind_file, behind_break, behind_send}
-use Rattle.saved_session.specs.Valid.{AreWords, IsCpu, CanHold, IsUnit, IsEvent, IsFile, AreActions, IsBreak, IsExpect, IsSend, Valid}
+use Rattle.saved_session.specs.Valid.{AreWords, IsCpu, CanHold, IsUnit, IsEvent, IsFile, AreActions, IsBreak, IsExpect, IsSend, IsMachine, Valid}
 use Rattle.byte_layouts.specs.Readers.{with_last}
 use Rattle.byte_layouts.specs.Layout.{Follow, Has}
-use Rattle.state_text.specs.Rows.{word_layout, cpu_layout, register_layout, registers_layout, unit_layout, event_layout, place_after, place_behind, file_layout, actions_layout, address_after, address_behind, break_layout, expect_layout, time_after, time_behind, send_layout, state_layout}
+use Rattle.state_text.specs.Rows.{word_layout, cpu_layout, register_layout, registers_layout, unit_layout, event_layout, place_after, place_behind, file_layout, actions_layout, address_after, address_behind, break_layout, expect_layout, time_after, time_behind, send_layout, machine_in, machine_rows, state_layout}
 use Rattle.state_text.proofs.Lists.{follows_to, follows_from, all_to, all_from, numbers_step, last_is}
 
 -- ---- the processor
@@ -285,24 +285,27 @@ state_to s h =
       };
     }
 
+pub machine_from : (m : MachinePart) → IsMachine m → Has machine_rows (machine_in m)
+machine_from m is = (
+  (cpu_from m.cpu is.cpu, (is.size, words_from m.words is.words)),
+  (
+    (
+      (ten (length m.units) is.all, eq-eqb (length m.units) standard_kinds is.all),
+      follows_from (λ front. Has (unit_layout front)) IsUnit next_number (λ (front : List UnitPart). length front) (λ front x. numbers_step front x) unit_from [] m.units is.units,
+    ),
+    (
+      (small_events (length m.agenda) is.few, is.few),
+      follows_from (λ front. Has (event_layout front)) IsEvent with_event (λ (front : List SavedEvent). front) (λ front x. refl) event_from [] m.agenda is.agenda,
+    ),
+  ),
+)
+
 pub state_from : (s : State) → Valid s → Has state_layout s
 unfolding state_layout
 state_from s is = (
   (tt, omega arith),
   (
-    (
-      (cpu_from s.machine.cpu is.machine.cpu, (is.machine.size, words_from s.machine.words is.machine.words)),
-      (
-        (
-          (ten (length s.machine.units) is.machine.all, eq-eqb (length s.machine.units) standard_kinds is.machine.all),
-          follows_from (λ front. Has (unit_layout front)) IsUnit next_number (λ (front : List UnitPart). length front) (λ front x. numbers_step front x) unit_from [] s.machine.units is.machine.units,
-        ),
-        (
-          (small_events (length s.machine.agenda) is.machine.few, is.machine.few),
-          follows_from (λ front. Has (event_layout front)) IsEvent with_event (λ (front : List SavedEvent). front) (λ front x. refl) event_from [] s.machine.agenda is.machine.agenda,
-        ),
-      ),
-    ),
+    machine_from s.machine is.machine,
     (
       (((is.files.few, refl), follows_from (λ front. Has (file_layout front)) IsFile behind_file place_behind place_step file_from [] s.files is.files.each), (is.port, refl)),
       (

@@ -31,7 +31,7 @@ use Rattle.host_lines.specs.State.{LineState}
 use Rattle.telnet_lines.specs.Line.{LineOf, unconnected}
 use Rattle.telnet_lines.specs.Joined.{seen_line}
 use Rattle.saved_files.specs.Putting.{with_all}
-use Rattle.state_transfer.specs.PutBack.{is_set, cpu_from, interrupts_from, memory_from, unit_from, event_from, held_from, machine_from, lines_from}
+use Rattle.state_transfer.specs.PutBack.{unit_from, event_from, held_from, machine_from, lines_from}
 use Rattle.saved_session.specs.SavedWatch.{watch_from}
 use Rattle.saved_session.specs.Ranges.{kind_at, standard_kinds, is_position, is_event_of}
 use Rattle.saved_session.specs.Order.{next_number, with_event}
@@ -166,20 +166,7 @@ unfolding machine_from
 seen-as old new p becomes attached files here copy =
     let slots : map unnumbered old.slots ≡ map held_from attached =
     unnumbered-held old.slots ∙ ap (map held_from) here in
-    ap erased becomes ∙ (λ i. record {
-      processor = record { cpu = cpu_from p.cpu; memory = memory_from false p.cpu.size_k p.words };
-      ints = interrupts_from p.cpu;
-      sr = p.cpu.sr;
-      stop_dev = is_set p.cpu.stop_dev;
-      units = map unit_from p.units;
-      events = map event_from p.agenda;
-      time = p.cpu.time;
-      taken = p.cpu.keys_taken;
-      slots = slots i;
-      disk = copy i;
-      aside = [];
-      lines = [];
-    })
+    ap erased becomes ∙ (λ i. record (with_machine_of old p) { slots = slots i; disk = copy i; aside = []; lines = [] })
 
 -- ---- the session
 

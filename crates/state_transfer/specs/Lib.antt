@@ -1,3 +1,4 @@
+pub mod Processor
 pub mod Session
 pub mod PutBack
 pub mod SavedValid

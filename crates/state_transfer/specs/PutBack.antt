@@ -1,5 +1,5 @@
 -- What is put back of a saved session.
-use Rattle.std.specs.Prelude.{◌≡◌, ◌≢◌, ℕ, zero, suc, ◌-◌, ◌*◌, ◌^◌, ◌==◌, Bool, false, List, [], ◌∷◌, ◌++◌, length, map, replicate, Option, Some, None, option_map}
+use Rattle.std.specs.Prelude.{◌≡◌, ◌≢◌, ℕ, zero, suc, ◌-◌, ◌*◌, ◌^◌, Bool, false, List, [], ◌∷◌, ◌++◌, length, map, replicate, Option, Some, None, option_map}
 use Rattle.std.specs.List.{AllByRecursion}
 use Rattle.file_traits.specs.Lists.{NamedBytes}
 use Rattle.host_lines.specs.Traffic.{Peer}
@@ -11,29 +11,19 @@ use Rattle.event_queue.specs.EventList.{Event}
 use Rattle.unit_files.specs.Attachments.{Attachment, Held, no_attachments, attachment_at, file_units}
 use Rattle.unit_files.specs.Buffer.{disk_unit}
 use Rattle.nova_memory.specs.Memory.{MemoryState, IsMemory, IsSize}
-use Rattle.nova_processor.specs.declared.cpu.Cpu.{Cpu}
-use Rattle.nova_interrupts.specs.declared.interrupts.Ints.{Ints}
 use Rattle.expect_actions.specs.Watch.{forgotten}
-use Rattle.nova_machine.specs.Machine.{MachineState, place_of as line_place}
+use Rattle.nova_machine.specs.Machine.{MachineState, new_machine, place_of as line_place}
 use Rattle.nova_machine.specs.Seen.{Seen, erased}
+use Rattle.nova_machine.specs.Turn.{with_memory}
 use Rattle.nova_machine.specs.Valid.{DiskIsItsFile}
-use Rattle.saved_session.specs.declared.saved.SavedCpu.{SavedCpu}
 use Rattle.saved_session.specs.declared.saved.SavedEvent.{SavedEvent}
 use Rattle.saved_session.specs.Parts.{UnitPart, MachinePart, State}
 use Rattle.saved_session.specs.Ranges.{kind_at}
 use Rattle.saved_session.specs.SavedWatch.{watch_from}
 use Rattle.saved_files.specs.Putting.{with_all, copy_of}
+use Rattle.state_transfer.specs.Processor.{with_cpu_of}
 
 -- ---- the machine
-
-abbrev pub is_set : ℕ → Bool
-is_set flag = flag == 1
-
-abbrev pub cpu_from : SavedCpu → Cpu
-cpu_from c = record { accumulators = c.acs; carry = is_set c.carry; pc = c.pc }
-
-abbrev pub interrupts_from : SavedCpu → Ints
-interrupts_from c = record { mask = c.mask; on = is_set c.on; hold = is_set c.hold }
 
 -- so many K of words, and 0 past them, and that rule of the auto-index locations
 abbrev pub memory_from : Bool → ℕ → List ℕ → MemoryState
@@ -61,15 +51,9 @@ held_from a = option_map (λ (b : Attachment). record { file = 0; attachment = b
 -- A machine to whose units that is attached, without its lines, and with nothing kept beside the disk's copy. A state file
 -- does not name the rule of the auto-index locations: bit 0 of the changed word is tested.
 unfoldable pub machine_from : MachinePart → List (Option Attachment) → List NamedBytes → MachineState
-machine_from m attached files = record {
-  processor = record { cpu = cpu_from m.cpu; memory = memory_from false m.cpu.size_k m.words };
-  ints = interrupts_from m.cpu;
-  sr = m.cpu.sr;
-  stop_dev = is_set m.cpu.stop_dev;
+machine_from m attached files = record (with_memory (with_cpu_of (new_machine []) m.cpu) (memory_from false m.cpu.size_k m.words)) {
   units = map unit_from m.units;
   events = map event_from m.agenda;
-  time = m.cpu.time;
-  taken = m.cpu.keys_taken;
   slots = map held_from attached;
   disk = copy_of (attachment_at attached disk_unit) files;
   aside = [];

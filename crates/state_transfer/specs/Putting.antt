@@ -7,31 +7,13 @@ use Rattle.file_traits.specs.Lists.{NamedBytes}
 use Rattle.unit_files.specs.Attachments.{Attachment, attachments_of, attachment_at}
 use Rattle.unit_files.specs.Buffer.{disk_unit}
 use Rattle.nova_machine.specs.Machine.{MachineState}
-use Rattle.nova_machine.specs.Registers.{with_cpu}
 use Rattle.nova_machine.specs.Seen.{erased}
 use Rattle.nova_machine.specs.Turn.{with_memory}
-use Rattle.saved_session.specs.declared.saved.SavedCpu.{SavedCpu}
 use Rattle.state_transfer.specs.Listening.{AreClosed}
 use Rattle.saved_session.specs.Parts.{MachinePart, State}
-use Rattle.state_transfer.specs.PutBack.{is_set, cpu_from, interrupts_from, memory_from, unit_from, event_from, machine_from, put_back}
+use Rattle.state_transfer.specs.Processor.{with_cpu_of}
+use Rattle.state_transfer.specs.PutBack.{memory_from, unit_from, event_from, machine_from, put_back}
 use Rattle.saved_files.specs.Putting.{copy_of}
-
--- the registers that instructions change
-abbrev pub with_registers_of : MachineState → SavedCpu → MachineState
-with_registers_of m c = with_cpu m (cpu_from c)
-
-abbrev pub with_interrupts_of : MachineState → SavedCpu → MachineState
-with_interrupts_of m c = record m { ints = interrupts_from c }
-
-abbrev pub with_switches_of : MachineState → SavedCpu → MachineState
-with_switches_of m c = record m { sr = c.sr; stop_dev = is_set c.stop_dev }
-
--- all of these, and the clock; memory stays
-abbrev pub with_cpu_of : MachineState → SavedCpu → MachineState
-with_cpu_of m c = record (with_switches_of (with_interrupts_of (with_registers_of m c) c) c) {
-  time = c.time;
-  taken = c.keys_taken;
-}
 
 -- all but its files and its lines
 abbrev pub with_machine_of : MachineState → MachinePart → MachineState

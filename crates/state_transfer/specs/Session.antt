@@ -1,6 +1,6 @@
 -- What is saved of a session: its machine, its watch tables, the files that are attached, and the port of the second
 -- teletype. The keys of the console and what is still to come on lines are not saved, nor is a connection.
-use Rattle.std.specs.Prelude.{ℕ, ◌/◌, List, map, take, slice_get, Option, Some, None}
+use Rattle.std.specs.Prelude.{ℕ, List, map, take, slice_get, Option, Some, None}
 use Rattle.host_lines.specs.Traffic.{Peer}
 use Rattle.telnet_lines.specs.Line.{LineOf}
 use Rattle.unit_trait.specs.Calls.{UnitState}
@@ -8,28 +8,13 @@ use Rattle.event_queue.specs.EventList.{Event}
 use Rattle.unit_list.specs.BusOrder.{place_of}
 use Rattle.nova_machine.specs.Machine.{MachineState, place_of as line_place}
 use Rattle.nova_machine.specs.Seen.{Seen, attached_in}
-use Rattle.saved_session.specs.declared.saved.SavedCpu.{SavedCpu}
 use Rattle.saved_session.specs.declared.saved.SavedEvent.{SavedEvent}
 use Rattle.saved_session.specs.Parts.{UnitPart, MachinePart, State}
 use Rattle.saved_session.specs.SavedWatch.{saved_watch}
-use Rattle.saved_files.specs.Taking.{flag_of, file_places, saved_files}
+use Rattle.saved_files.specs.Taking.{file_places, saved_files}
+use Rattle.state_transfer.specs.Processor.{saved_cpu}
 
 -- ---- the machine
-
-abbrev pub saved_cpu : MachineState → SavedCpu
-saved_cpu m = record {
-  size_k = m.processor.memory.size / 1024;
-  acs = m.processor.cpu.accumulators;
-  carry = flag_of m.processor.cpu.carry;
-  pc = m.processor.cpu.pc;
-  on = flag_of m.ints.on;
-  hold = flag_of m.ints.hold;
-  mask = m.ints.mask;
-  sr = m.sr;
-  stop_dev = flag_of m.stop_dev;
-  time = m.time;
-  keys_taken = m.taken;
-}
 
 abbrev pub saved_unit : UnitState → UnitPart
 saved_unit u = record { position = place_of u.kind; registers = u.registers }

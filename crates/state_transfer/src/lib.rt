@@ -1,6 +1,7 @@
 //! A session is taken as what is saved of it, and put back.
 #![tactic(auto)]
 
+mod processor;
 mod putting;
 pub mod putting_state;
 pub mod taking;

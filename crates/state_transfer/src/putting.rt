@@ -1,87 +1,26 @@
 // What was saved of a machine is put into it: its processor, words, units and events.
 ghost use Rattle.std.specs.Prelude.{◌≡◌, ◌*◌, ◌<◌, ℕ, false, List, [], IsTrue, length, map, is_some};
 ghost use Rattle.unit_trait.specs.Kinds.{code_of, units_of};
-ghost use Rattle.unit_trait.specs.Processor.{CanHold};
 ghost use Rattle.unit_trait.specs.Registers.{registers};
 ghost use Rattle.unit_trait.specs.Row.{InRange};
 ghost use Rattle.unit_list.specs.Bus.{unit_at};
 ghost use Rattle.unit_list.specs.Whole.{with_registers_in};
 ghost use Rattle.event_queue.specs.EventList.{activated};
 ghost use Rattle.nova_memory.specs.Memory.{IsSize};
-ghost use Rattle.nova_machine.specs.Registers.{with_register};
 ghost use Rattle.nova_machine.specs.Turn.{with_memory};
 ghost use Rattle.saved_session.specs.Parts.{unit_in, state_in};
+ghost use Rattle.state_transfer.specs.Processor.{with_cpu_of};
 ghost use Rattle.state_transfer.specs.PutBack.{memory_from, unit_from, unit_named, event_from};
-ghost use Rattle.state_transfer.specs.Putting.{with_registers_of, with_interrupts_of, with_switches_of, with_cpu_of, with_machine_of, IsSeenAs};
+ghost use Rattle.state_transfer.specs.Putting.{with_machine_of, IsSeenAs};
 ghost use Rattle.saved_session.specs.Ranges.{kind_at, standard_kinds};
 ghost use Rattle.saved_session.specs.Order.{next_number, with_event};
 ghost use Rattle.state_transfer.specs.SavedValid.{AreStandard};
-ghost use Rattle.saved_session.specs.Valid.{Follow, IsCpu, IsUnit, IsEvent, IsMachine};
+ghost use Rattle.saved_session.specs.Valid.{Follow, IsUnit, IsEvent, IsMachine};
 
+use crate::processor::put_cpu;
 use nova_machine::Machine;
-use nova_word::Word;
-use saved_session::{Saved, SavedCpu, SavedEvent, SavedUnit, kind_at};
-use unit_trait::{CpuReg, Unit, UnitName};
-
-// These numbers as words.
-fn words_of(numbers: [u16; 4]) -> [Word; 4]
-    ensures { result ≡ numbers }
-{
-    [
-        Word(numbers[0]),
-        Word(numbers[1]),
-        Word(numbers[2]),
-        Word(numbers[3]),
-    ]
-}
-
-// Sets a register to a value that it can hold.
-fn put_register<U: Unit>(machine: &mut Machine<U>, register: CpuReg, value: u16)
-    requires { CanHold register value }
-    ensures { machine.new ≡ with_register machine.old register value }
-{
-    let _fits = machine.set_cpu_reg(register, u32::from(value));
-}
-
-// The registers that instructions change.
-fn put_registers<U: Unit>(machine: &mut Machine<U>, cpu: &SavedCpu)
-    requires { IsCpu cpu.now }
-    ensures { machine.new ≡ with_registers_of machine.old cpu.now }
-{
-    machine.set_accumulators(words_of(cpu.acs));
-    put_register(machine, CpuReg::C, u16::from(cpu.carry));
-    put_register(machine, CpuReg::Pc, cpu.pc);
-}
-
-// The interrupts.
-fn put_interrupts<U: Unit>(machine: &mut Machine<U>, cpu: &SavedCpu)
-    requires { IsCpu cpu.now }
-    ensures { machine.new ≡ with_interrupts_of machine.old cpu.now }
-{
-    put_register(machine, CpuReg::Ion, u16::from(cpu.on));
-    put_register(machine, CpuReg::Hold, u16::from(cpu.hold));
-    put_register(machine, CpuReg::Mask, cpu.mask);
-}
-
-// The switches.
-fn put_switches<U: Unit>(machine: &mut Machine<U>, cpu: &SavedCpu)
-    requires { IsCpu cpu.now }
-    ensures { machine.new ≡ with_switches_of machine.old cpu.now }
-{
-    put_register(machine, CpuReg::Sr, cpu.sr);
-    put_register(machine, CpuReg::StopDev, u16::from(cpu.stop_dev));
-}
-
-/// The processor, the interrupts, the switches and the clock. Memory stays as it is, whatever its size.
-pub fn put_cpu<U: Unit>(machine: &mut Machine<U>, cpu: &SavedCpu)
-    requires { IsCpu cpu.now }
-    ensures { machine.new ≡ with_cpu_of machine.old cpu.now }
-{
-    put_registers(machine, cpu);
-    put_interrupts(machine, cpu);
-    put_switches(machine, cpu);
-    machine.set_clock(cpu.time, cpu.keys_taken);
-}
+use saved_session::{Saved, SavedEvent, SavedUnit, kind_at};
+use unit_trait::{Unit, UnitName};
 
 /// The words of memory, and with them its size. A state file does not name the rule of the auto-index locations, so
 /// bit 0 of the changed word is tested.

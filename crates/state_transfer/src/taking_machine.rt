@@ -11,45 +11,19 @@ ghost use Rattle.saved_session.specs.Parts.{unit_in};
 ghost use Rattle.saved_session.specs.Ranges.{kind_at, standard_kinds};
 ghost use Rattle.state_transfer.specs.SavedValid.{AreStandard};
 ghost use Rattle.saved_session.specs.Valid.{MachineFits};
-ghost use Rattle.state_transfer.specs.Session.{saved_cpu, saved_unit, saved_event, saved_machine, saved_port};
+ghost use Rattle.state_transfer.specs.Session.{saved_unit, saved_event, saved_machine, saved_port};
 
+use crate::processor::taken_cpu;
 use event_queue::Events;
 use nova_machine::Machine;
 use nova_memory::Memory;
 use nova_word::{Addr, Word};
-use saved_session::{MachineFields, SavedCpu, SavedEvent, SavedUnit, kind_at, register_count};
+use saved_session::{MachineFields, SavedEvent, SavedUnit, kind_at, register_count};
 use std::alloc::{AllocError, Global};
-use unit_trait::{CpuReg, Kind, Unit};
+use unit_trait::{Kind, Unit};
 
 /// How many units a machine has: one of each kind of a standard machine.
 const UNITS: u8 = 10;
-
-// The words of the accumulators.
-fn numbers_of(words: [Word; 4]) -> [u16; 4]
-    ensures { result ≡ words }
-{
-    let [first, second, third, fourth] = words;
-    [first.0, second.0, third.0, fourth.0]
-}
-
-/// The processor, the interrupts and the clock.
-pub fn taken_cpu<U: Unit>(machine: &Machine<U>) -> SavedCpu
-    ensures { result ≡ saved_cpu machine.now }
-{
-    SavedCpu {
-        size_k: (machine.memory().size() / 1024) as u8,
-        acs: numbers_of(machine.accumulators()),
-        carry: machine.cpu_reg(CpuReg::C) as u8,
-        pc: machine.pc().number(),
-        on: machine.cpu_reg(CpuReg::Ion) as u8,
-        hold: machine.cpu_reg(CpuReg::Hold) as u8,
-        mask: machine.cpu_reg(CpuReg::Mask) as u16,
-        sr: machine.cpu_reg(CpuReg::Sr) as u16,
-        stop_dev: machine.cpu_reg(CpuReg::StopDev) as u8,
-        time: machine.time(),
-        keys_taken: machine.keys_taken(),
-    }
-}
 
 /// The words below the size of memory.
 pub fn taken_words(alloc: Global, memory: &Memory) -> Result<Vec<u16>, AllocError>
