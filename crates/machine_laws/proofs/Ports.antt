@@ -1,5 +1,5 @@
 -- A poll leaves a line its port, and so does a byte that is put on it.
-use Rattle.std.proofs.Common.{◌≡◌, refl, ◌∙◌, ℕ, Bool, List, [], ◌∷◌, ◌++◌, length, Option, Some, None, is_some}
+use Rattle.std.proofs.Common.{◌≡◌, refl, ◌∙◌, ℕ, List, [], ◌∷◌, ◌++◌, length, Option, Some, None, is_some}
 use Rattle.std.proofs.lemmas.Bool.{cond_both}
 use Rattle.host_lines.specs.Traffic.{Peer, Answer, Quiet, Connected, Gave, HungUp, Failed, Took, Ahead, accepting, receiving, sending}
 use Rattle.telnet_lines.specs.Line.{LineOf, is_full, put_on, key_taken}

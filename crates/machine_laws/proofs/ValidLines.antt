@@ -26,9 +26,9 @@ use Rattle.nova_machine.specs.Machine.{line_count, new_machine, reset_machine, r
 use Rattle.expect_actions.specs.Expects.{ExpectTable, after_printed}
 use Rattle.nova_machine.specs.OnLines.{Lined, Around, got_of_line, lined_by, put_by, put_line, put_got, console_in, console_polled, console_key, console_put, lined}
 use Rattle.nova_machine.specs.Valid.{AreBytes, IsPort, ValidLine, ValidAnswer, ValidTraffic, ValidAhead}
-use Rattle.machine_laws.proofs.ValidBytes.{IsByte, bytes-append, bytes-take, bytes-drop}
+use Rattle.machine_laws.proofs.ValidBytes.{IsByte, PrintsByte, bytes-append, bytes-take, bytes-drop}
 use Rattle.nova_machine.proofs.Each.{every-drop, every-remove, every-set}
-use Rattle.machine_laws.proofs.ValidAnswers.{WritesByte, PrintsByte, IsGiven, given-key}
+use Rattle.machine_laws.proofs.ValidAnswers.{WritesByte, IsGiven, given-key}
 
 -- ---- few bytes
 

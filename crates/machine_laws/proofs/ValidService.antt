@@ -220,7 +220,7 @@ valid-own fault u s low is =
 valid-lined : (u : UnitName) (l : Lined) (s : Seen) → lined_at u s ≡ Some l → Valid s → ValidLined (want_at u s.machine) s.watch.expects l
 valid-lined u l s there is =
     lined-valid (want_at u s.machine) (around s) l (writes-in (code_of u.kind) u.unit s.machine.units is.machine.core.registers)
-    (prints-in (code_of u.kind) u.unit s.machine.units is.machine.core.registers) is.lines is.ahead there
+    (prints-in (code_of u.kind) u.unit s.machine.units) is.lines is.ahead there
 
 -- the texts that are waited for stay in their ranges
 waits-valid : (w : WatchState) (l : Lined) → (l.expects ≡ w.expects) ⊎ ((byte : ℕ) × IsByte byte × (l.expects ≡ after_printed byte w.expects)) → ValidWatch w → ValidWatch (record w { expects = l.expects })
