@@ -140,13 +140,41 @@ fn a_text_that_is_cut_is_cut_short(rt: HostRuntime) {
 
 /// What is wrong with bytes, these, and their first fault from the left.
 const FAULTS: [(&str, &[u8], FieldFault); 8] = [
-    ("a byte behind two marks", b"MARKS\x01\x02\x02\x03\xe8\x00\x07\x00", FieldFault::BadField(12)),
-    ("a byte behind none", b"MARKS\x01\x02\x00\x00", FieldFault::BadField(8)),
-    ("the last mark", b"MARKS\x01\x02\x02\x03\xe8\x03\xe9", FieldFault::BadField(10)),
-    ("the first mark, and it is cut", b"MARKS\x01\x02\x02\x03\xe9", FieldFault::BadField(8)),
-    ("how many marks", b"MARKS\x01\x02\x04", FieldFault::BadField(7)),
-    ("the version, and how many", b"MARKS\x02\x01\x04", FieldFault::Version(513)),
-    ("a letter, and the version", b"MARKs\x02\x01", FieldFault::NotHead),
+    (
+        "a byte behind two marks",
+        b"MARKS\x01\x02\x02\x03\xe8\x00\x07\x00",
+        FieldFault::BadField(12),
+    ),
+    (
+        "a byte behind none",
+        b"MARKS\x01\x02\x00\x00",
+        FieldFault::BadField(8),
+    ),
+    (
+        "the last mark",
+        b"MARKS\x01\x02\x02\x03\xe8\x03\xe9",
+        FieldFault::BadField(10),
+    ),
+    (
+        "the first mark, and it is cut",
+        b"MARKS\x01\x02\x02\x03\xe9",
+        FieldFault::BadField(8),
+    ),
+    (
+        "how many marks",
+        b"MARKS\x01\x02\x04",
+        FieldFault::BadField(7),
+    ),
+    (
+        "the version, and how many",
+        b"MARKS\x02\x01\x04",
+        FieldFault::Version(513),
+    ),
+    (
+        "a letter, and the version",
+        b"MARKs\x02\x01",
+        FieldFault::NotHead,
+    ),
     ("the one letter", b"m", FieldFault::NotHead),
 ];
 
