@@ -1,6 +1,6 @@
 -- No text is that of two states that fit. For this a text is read without the tests of its rows: what such a reading takes
 -- tells the state, so no text is the front of another one.
-use Rattle.std.proofs.Common.{◌≡◌, ℕ, ◌^◌, ◌<◌, List, [], refl, arith}
+use Rattle.std.proofs.Common.{◌^◌, ◌<◌, [], refl, arith}
 use Rattle.std.specs.List.{AllByRecursion}
 use Rattle.sha2.specs.Sha256.{sha256}
 use Rattle.saved_session.specs.declared.saved.SavedSend.{SavedSend}

@@ -48,17 +48,18 @@ event_from e = record { unit = unit_named e.position e.unit; remaining = e.remai
 abbrev pub held_from : Option Attachment → Option Held
 held_from a = option_map (λ (b : Attachment). record { file = 0; attachment = b }) a
 
--- A machine to whose units that is attached, without its lines, and with nothing kept beside the disk's copy. A state file
--- does not name the rule of the auto-index locations: bit 0 of the changed word is tested.
+-- A machine to whose units that is attached, without its lines, and with nothing kept beside the disk's copy: of a new one
+-- nothing is left. A state file does not name the rule of the auto-index locations: bit 0 of the changed word is tested.
 unfoldable pub machine_from : MachinePart → List (Option Attachment) → List NamedBytes → MachineState
-machine_from m attached files = record (with_memory (with_cpu_of (new_machine []) m.cpu) (memory_from false m.cpu.size_k m.words)) {
-  units = map unit_from m.units;
-  events = map event_from m.agenda;
-  slots = map held_from attached;
-  disk = copy_of (attachment_at attached disk_unit) files;
-  aside = [];
-  lines = [];
-}
+machine_from m attached files =
+    record (with_memory (with_cpu_of (new_machine []) m.cpu) (memory_from false m.cpu.size_k m.words)) {
+      units = map unit_from m.units;
+      events = map event_from m.agenda;
+      slots = map held_from attached;
+      disk = copy_of (attachment_at attached disk_unit) files;
+      aside = [];
+      lines = [];
+    }
 
 -- ---- the port of line 0
 
