@@ -9,7 +9,8 @@ use Rattle.telnet_lines.specs.Line.{LineOf}
 use Rattle.nova_machine.specs.LineChanges.{LinesGoOn}
 use Rattle.expect_actions.specs.Watch.{WatchState}
 use Rattle.nova_machine.specs.Machine.{MachineState, attached_files}
-use Rattle.nova_machine.specs.StopCauses.{moment_of, Watches, RunCause}
+use Rattle.nova_machine.specs.OnLines.{is_ported}
+use Rattle.nova_machine.specs.StopCauses.{moment_of, Watches, RunCause, console_bytes}
 use Rattle.nova_machine.specs.Run.{run}
 use Rattle.nova_machine.specs.Seen.{seen, beside, erased}
 use Rattle.command_session.specs.Live.{Live, CommandState, live_in, beyond}
@@ -138,14 +139,14 @@ returns-clause-stopped g c =
     (λ t. subst (λ (x : MachineState). Puts mid (stop_text stop x) c.put_stop-printed.result after) shown (c.put_stop-printed.ensures.told t)))
 
 pub returns-then-is_console_fault-clause-grows : goal.returns-then-is_console_fault-clause-grows
-returns-then-is_console_fault-clause-grows g c = λ told. (c.run-stop.ensures.watches.bytes, c.run-stop.ensures.watches.written told)
+returns-then-is_console_fault-clause-grows g c = λ told. (console_bytes (is_ported c.session.inside.machine.lines) c.run-stop.ensures.watches.bytes, c.run-stop.ensures.watches.written told)
 
 pub returns-clause-grows : goal.returns-clause-grows
 returns-clause-grows g c =
     let before = g.S.Sink.written c.args.out.now in
     let mid = g.S.Sink.written c.run-stop.new.out in
     let after = g.S.Sink.written c.put_stop-printed.new.out in
-    grows-both g.S.Sink.tells before mid after (λ told. (c.run-stop.ensures.watches.bytes, c.run-stop.ensures.watches.written told))
+    grows-both g.S.Sink.tells before mid after (λ told. (console_bytes (is_ported c.session.inside.machine.lines) c.run-stop.ensures.watches.bytes, c.run-stop.ensures.watches.written told))
     (grows-put g.S.Sink.tells mid _ c.put_stop-printed.result after c.put_stop-printed.ensures.told)
 
 pub returns-then-is_console_fault-clause-covers : goal.returns-then-is_console_fault-clause-covers
