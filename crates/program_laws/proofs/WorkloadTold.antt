@@ -189,7 +189,7 @@ chosen-ready words options number keys files ahead input notes = record {
   has = record { unread = refl; actions = refl; scripts = refl };
   unwatched = empty-unwatched;
   free = no-files-free file_units;
-  none = (refl, tt);
+  none = (refl, (refl, tt));
 }
 
 opening-ready : (words : List (List ℕ)) (options : Options) (number : ℕ) (keys : List Key) (files : List NamedBytes) (ahead : Ahead) (input : List ℕ) (notes : List Note) → options.workload ≡ Some number
