@@ -1,4 +1,4 @@
-ghost use Rattle.std.specs.Prelude.{◌≡◌, ℕ, ◌^◌, ◌<◌, ◌≤◌, IfOk};
+ghost use Rattle.std.specs.Prelude.{◌≡◌, ℕ, ◌^◌, ◌<◌, ◌≤◌, nat_lt, IfOk};
 ghost use Rattle.std.specs.Result.{result_ok};
 ghost use Rattle.nova_memory.specs.Memory.{get, put};
 ghost use Rattle.nova_memory.specs.Address.{IsAutoIndex, displaced, indexed, changed, tested, chain, address};
@@ -43,7 +43,7 @@ impl Words {
         for _level in 0..16u8 {
             let level = self.follow(at);
             at = Addr::of_word(level.used);
-            if level.tested.0 < 0o100000 {
+            if level.ends {
                 return Ok(at);
             }
         }
@@ -54,31 +54,44 @@ impl Words {
     #[inline(always)]
     fn follow(&mut self, at: Addr) -> Level
         ensures used { result.used ≡ changed at (get self.old at) }
-        ensures tested { result.tested ≡ tested self.old.before (get self.old at) (changed at (get self.old at)) }
+        ensures ends { result.ends
+            ≡ nat_lt (tested self.old.before (get self.old at) (changed at (get self.old at))) (2 ^ 15) }
         ensures memory { self.new ≡ put self.old at (changed at (get self.old at)) }
     {
         let word = self.read(at);
         if at.number() / 16 != 1 {
             return Level {
                 used: word,
-                tested: word,
+                ends: word.0 < 0o100000,
             };
         }
         let used = changed(at, word);
         self.write(at, used);
         Level {
             used,
-            tested: if self.before { word } else { used },
+            ends: ends(self.before, word, used),
         }
     }
 }
 
-/// What an indirect reference meets at one level: the word that it goes by, and the one whose bit 0 says whether it
-/// goes on.
+/// What an indirect reference meets at one level: the word that it goes by, and whether it ends there.
 #[derive(Clone, Copy)]
 struct Level {
     used: Word,
-    tested: Word,
+    ends: bool,
+}
+
+/// Whether an indirect reference ends at a word that it changes, by the rule of a test before the change or behind it.
+#[inline(always)]
+fn ends(before: bool, word: Word, used: Word) -> bool
+    ensures { result ≡ nat_lt (tested before word used) (2 ^ 15) }
+{
+    // Where neither has bit 0, both rules say the same, and no flag is read.
+    if word.0 < 0o100000 && used.0 < 0o100000 {
+        return true;
+    }
+    let tested = if before { word } else { used };
+    tested.0 < 0o100000
 }
 
 /// The address that a memory reference, which stands at `pc`, names before it is followed. One accumulator is read at
