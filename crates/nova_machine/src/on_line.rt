@@ -69,7 +69,8 @@ impl<U: Unit> Machine<U> {
         self.work_on_line(want, watch, keys, lines)
     }
 
-    /// Whether a unit wants nothing of a line: neither of a terminal line, nor of the console line where that has a port.
+    /// Whether a unit wants nothing of a line: neither of a terminal line, nor of the console line where that has a
+    /// port.
     #[inline(always)]
     fn is_off_line(&self, want: Want) -> bool
         ensures { result ≡ is_off_line want (is_ported self.now.lines) }
