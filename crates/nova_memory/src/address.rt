@@ -41,44 +41,23 @@ impl Words {
     {
         let mut at = from;
         for _level in 0..16u8 {
-            let level = self.follow(at);
-            at = Addr::of_word(level.used);
-            if level.ends {
-                return Ok(at);
+            let word = self.read(at);
+            if at.number() / 16 == 1 {
+                let used = changed(at, word);
+                self.write(at, used);
+                at = Addr::of_word(used);
+                if ends(self.before, word, used) {
+                    return Ok(at);
+                }
+            } else {
+                match Addr::new(word.0) {
+                    Some(end) => return Ok(end),
+                    None => at = Addr::of_word(word),
+                }
             }
         }
         Err(ChainLimit)
     }
-
-    /// The word through which an indirect reference passes there, changed and stored.
-    #[inline(always)]
-    fn follow(&mut self, at: Addr) -> Level
-        ensures used { result.used ≡ changed at (get self.old at) }
-        ensures ends { result.ends
-            ≡ nat_lt (tested self.old.before (get self.old at) (changed at (get self.old at))) (2 ^ 15) }
-        ensures memory { self.new ≡ put self.old at (changed at (get self.old at)) }
-    {
-        let word = self.read(at);
-        if at.number() / 16 != 1 {
-            return Level {
-                used: word,
-                ends: word.0 < 0o100000,
-            };
-        }
-        let used = changed(at, word);
-        self.write(at, used);
-        Level {
-            used,
-            ends: ends(self.before, word, used),
-        }
-    }
-}
-
-/// What an indirect reference meets at one level: the word that it goes by, and whether it ends there.
-#[derive(Clone, Copy)]
-struct Level {
-    used: Word,
-    ends: bool,
 }
 
 /// Whether an indirect reference ends at a word that it changes, by the rule of a test before the change or behind it.
