@@ -91,10 +91,6 @@ head_law head =
 
 -- ---- the version
 
-pub version_law : (version : ℕ) → IsReaderOf (version_at version >>= (λ n. gives tt)) (λ (u : Unit {0}). number_text w16 version) (λ u. version < 2 ^ 16)
+pub version_law : (ok : ℕ → Bool) → IsReaderOf (version_at ok) (number_text w16) (λ n. Below (2 ^ 16) n × (ok n ≡ true))
 unfolding version_at
-version_law version =
-    made_is (version_at version) (λ n. tt) (λ (u : Unit {0}). version) (number_text w16) (λ n. Below (2 ^ 16) n × ((n == version) ≡ true)) (λ u. version < 2 ^ 16)
-    (tested_or_is (λ place n. Version n) (λ n. n == version) (number w16) (number_text w16) (Below (2 ^ 16)) u16_is)
-    (λ n has. let is = eqb-true n version has.1 in let lt = has.0 in (sym is, omega (arith, is, lt)))
-    (λ u has. ((has, eq-eqb version version refl), refl))
+version_law ok = tested_or_is (λ place n. Version n) ok (number w16) (number_text w16) (Below (2 ^ 16)) u16_is
