@@ -5,6 +5,7 @@ pub mod fault;
 mod file_formats;
 pub mod laws;
 mod machine_formats;
+mod port_formats;
 pub mod reading;
 mod state_reader;
 mod watch_formats;
