@@ -25,15 +25,16 @@ fn write_tables(saved: &Saved, known: Known, out: &mut Vec<u8>) -> Result<(), Al
     write_list::<SendFormat>(&saved.sends, known, out)
 }
 
-// What stands behind so many units.
+// What stands behind the units.
 #[tactic(auto, unfolding(crate::specs::Rows::ports_layout))]
-fn write_behind(saved: &Saved, count: usize, out: &mut Vec<u8>) -> Result<(), AllocError>
-    requires { FitsIn (rows_behind this_version count) (behind_in (state_in saved.now)) }
-    ensures { OnOk result (out.new.items ≡ out.old.items ++ text_of (rows_behind this_version count) (behind_in (state_in saved.now))) }
+fn write_behind(saved: &Saved, out: &mut Vec<u8>) -> Result<(), AllocError>
+    requires { FitsIn (rows_behind this_version (length (state_in saved.now).machine.units)) (behind_in (state_in saved.now)) }
+    ensures { OnOk result (out.new.items ≡ out.old.items
+        ++ text_of (rows_behind this_version (length (state_in saved.now).machine.units)) (behind_in (state_in saved.now))) }
 {
     let known = Known {
         version: VERSION,
-        count,
+        count: saved.units.len(),
     };
     write_list::<EventFormat>(&saved.agenda, known, out)?;
     write_list::<FileFormat>(&saved.attachments, known, out)?;
@@ -59,7 +60,7 @@ fn write_rows(saved: &Saved, out: &mut Vec<u8>) -> Result<(), AllocError>
     put_u16(out, VERSION)?;
     write_memory(saved, out)?;
     write_list::<UnitFormat>(&saved.units, Known::nothing(), out)?;
-    write_behind(saved, saved.units.len(), out)
+    write_behind(saved, out)
 }
 
 /// Writes a saved session as a state file. Nothing but want of memory can refuse it.
