@@ -128,6 +128,7 @@ fn accumulators(cursor: &mut Cursor) -> Result<[u16; 4], FieldFault>
 }
 
 // The flag of the auto-index rule.
+#[tactic(auto, using(crate::proofs::VersionLaws::in_first, crate::proofs::VersionLaws::in_later))]
 fn autobit(cursor: &mut Cursor, version: u16) -> Result<u8, FieldFault>
     ensures { Reads (λ x. x) result cursor.new (reading (autobit_row version) cursor.old) }
 {

@@ -45,6 +45,7 @@ fn is_console_port(tti1: u16, first: u16, port: u16) -> bool
 }
 
 // The first port of the multiplexer's lines, where the version has it.
+#[tactic(auto, using(crate::proofs::VersionLaws::in_first, crate::proofs::VersionLaws::in_later))]
 fn multiplexer_port(cursor: &mut Cursor, known: Known, tti1: u16) -> Result<u16, FieldFault>
     ensures { Reads (λ x. x) result cursor.new (reading (multiplexer_row known.version (has_multiplexer known.count) tti1) cursor.old) }
 {
@@ -67,6 +68,7 @@ fn listed_port(cursor: &mut Cursor, listed: bool, tti1: u16) -> Result<u16, Fiel
 }
 
 // The console's port, where the version has it.
+#[tactic(auto, using(crate::proofs::VersionLaws::in_first, crate::proofs::VersionLaws::in_later))]
 fn console_port(
     cursor: &mut Cursor,
     version: u16,
