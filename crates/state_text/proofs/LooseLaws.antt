@@ -40,7 +40,7 @@ pub one-to-one : OneToOne
 one-to-one = record {
   now = λ a b fits wide other_fits other e. (both_told this_version this_version a b wide other e).1;
   first = λ a b fits wide first other_fits other other_first e. (both_told 1 1 a b (first_widths a wide first) (first_widths b other other_first) e).1;
-  apart = λ a b fits wide other_fits other first e. absurd (cc ((both_told this_version 1 a b wide (first_widths b other first) e).0));
+  apart = λ a b fits wide other_fits other first e. let same : this_version ≡ 1 = (both_told this_version 1 a b wide (first_widths b other first) e).0 in absurd (omega (arith, same));
 }
 
 -- ---- what has its widths

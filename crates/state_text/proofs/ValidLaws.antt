@@ -235,7 +235,7 @@ ports_to version listed p h = by_test (version == 1) h.1
       console = let none = is.1 in omega (arith, none);
       apart = no_console_port p.tti1 p.qty p.console is.1;
     }
-    by_test false h' = record { tti1 = h.0.0; qty = h'.0.1; console = h'.1.0; apart = h'.1.1 }
+    by_test false is = record { tti1 = h.0.0; qty = is.0.1; console = is.1.0; apart = is.1.1 }
 
 small_first_port : (listed : Bool) (tti1 n : ℕ) → is_multiplexer_port listed tti1 n ≡ true → n < 2 ^ 16
 small_first_port listed tti1 n h = by_test (n == 0) refl
