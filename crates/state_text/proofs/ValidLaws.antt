@@ -226,16 +226,16 @@ PortsBehind first listed p =
 
 ports_to : (version : ℕ) (listed : Bool) (p : SavedPorts) → Has (ports_layout version listed) p → ArePorts listed p
 unfolding ports_layout
-ports_to version listed p h = by_test (version == 1) h.1
+ports_to version listed p h = by_test (version == 1) h.0.0 h.1
   where
-    by_test : (first : Bool) → PortsBehind first listed p → ArePorts listed p
-    by_test true is = record {
-      tti1 = h.0.0;
+    by_test : (first : Bool) → p.tti1 < 2 ^ 16 → PortsBehind first listed p → ArePorts listed p
+    by_test true lt is = record {
+      tti1 = lt;
       qty = no_multiplexer_port listed p.tti1 p.qty is.0;
       console = let none = is.1 in omega (arith, none);
       apart = no_console_port p.tti1 p.qty p.console is.1;
     }
-    by_test false is = record { tti1 = h.0.0; qty = is.0.1; console = is.1.0; apart = is.1.1 }
+    by_test false lt is = record { tti1 = lt; qty = is.0.1; console = is.1.0; apart = is.1.1 }
 
 small_first_port : (listed : Bool) (tti1 n : ℕ) → is_multiplexer_port listed tti1 n ≡ true → n < 2 ^ 16
 small_first_port listed tti1 n h = by_test (n == 0) refl
