@@ -1,5 +1,5 @@
 // How the machine is read and written: its processor, words, units and events.
-ghost use Rattle.std.specs.Prelude.{◌≡◌, ◌<◌, ◌^◌, ◌++◌, ◌&&◌, OnOk, ℕ, List, [], length, map, nat_le, nat_lt, not, ◌==◌, refl};
+ghost use Rattle.std.specs.Prelude.{◌≡◌, ◌<◌, ◌^◌, ◌++◌, ◌&&◌, OnOk, ℕ, List, [], length, map, nat_le, nat_lt, ◌==◌, refl};
 ghost use Rattle.std.specs.List.{list_any};
 ghost use Rattle.std.specs.Int.{w8, w16, w32};
 ghost use Rattle.unit_trait.specs.declared.kind.Kind.{Kind};
@@ -60,13 +60,6 @@ impl Tells for StartFormat {
             count: 0,
         }
     }
-}
-
-// Whether a version has what the first one has not.
-fn is_later(version: u16) -> bool
-    ensures { result ≡ not (version == 1) }
-{
-    version != 1
 }
 
 /// A word of 16 bits.
@@ -339,7 +332,7 @@ fn unit_count(cursor: &mut Cursor, version: u16) -> Result<u8, FieldFault>
 {
     let place = cursor.place();
     let count = cursor.u8()?;
-    if count != UNITS && !(is_later(version) && count == UNITS + 1) {
+    if count != UNITS && (version == 1 || count != UNITS + 1) {
         return Err(FieldFault::BadField(place));
     }
     Ok(count)
