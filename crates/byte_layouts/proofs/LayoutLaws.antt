@@ -83,7 +83,7 @@ law (Made make part there back a) =
 
 -- ---- one to one
 
-pub texts_same : {A S : Type 0} (t u : S → A → List ℕ) (next : S → A → S) → ((s : S) (x : A) → t s x ≡ u s x) → (s : S) (xs : List A) → texts t next s xs ≡ texts u next s xs
+texts_same : {A S : Type 0} (t u : S → A → List ℕ) (next : S → A → S) → ((s : S) (x : A) → t s x ≡ u s x) → (s : S) (xs : List A) → texts t next s xs ≡ texts u next s xs
 texts_same t u next same s [] = refl
 texts_same t u next same s (x ∷ xs) = λ i. same s x i ++ texts_same t u next same (next s x) xs i
 
