@@ -138,29 +138,6 @@ pub fn read_elements<R: Format>(
     Ok(items)
 }
 
-/// A list that is one value, behind the number of its elements.
-pub struct ListOf<R: ListFormat>(PhantomData<R>);
-
-impl<R: ListFormat> Format for ListOf<R> {
-    type Item = Vec<R::Item>;
-
-    ghost Value = { List R.Value };
-
-    ghost view = { λ v. map R.view v.items };
-
-    ghost layout = { λ known before. Listed R.size (R.few known) (R.layout known) };
-
-    fn read(
-        alloc: Global,
-        cursor: &mut Cursor,
-        known: Known,
-        _before: &[Vec<R::Item>],
-    ) -> Result<Vec<R::Item>, FieldFault> {
-        let count = R::count(cursor, known)?;
-        read_elements::<R>(alloc, cursor, known, count)
-    }
-}
-
 /// Writes values one behind the other.
 pub fn write_elements<R: Writes>(
     items: &[R::Item],

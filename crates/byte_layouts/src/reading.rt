@@ -59,7 +59,10 @@ impl<P: Part> Reading<P> {
         ensures kept { self.new.kept ≡ self.old.kept }
     {
         match self.stage {
-            Stage::Open => match self.part.go_on(self.alloc, Known::nothing(), &mut self.pending) {
+            Stage::Open => match self
+                .part
+                .go_on(self.alloc, Known::nothing(), &mut self.pending)
+            {
                 Ok(()) => {
                     self.stage = Stage::AtEnd;
                     Ok(())

@@ -14,28 +14,25 @@ use std::test::Fail;
 
 struct StartFormat;
 
-impl Format for StartFormat {
+impl Tells for StartFormat {
     type Item = ((), u16);
 
     ghost Value = { Unit {0} × ℕ };
 
     ghost view = { λ v. v };
 
-    ghost layout = { λ known before. Head (codes "MARKS") & Version (is_version_to 2) };
+    ghost layout = { λ known. Head (codes "MARKS") & Version (is_version_to 2) };
+
+    ghost tells = { λ known v. record { version = v.1; count = 0 } };
 
     fn read(
         _alloc: Global,
         cursor: &mut Cursor,
         _known: Known,
-        _before: &[((), u16)],
     ) -> Result<((), u16), FieldFault> {
         cursor.head(b"MARKS")?;
         Ok(((), cursor.version_to(2)?))
     }
-}
-
-impl Tells for StartFormat {
-    ghost tells = { λ known v. record { version = v.1; count = 0 } };
 
     fn tell(_known: Known, start: &((), u16)) -> Known {
         Known {

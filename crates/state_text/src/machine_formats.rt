@@ -31,28 +31,21 @@ pub const VERSION: u16 = 2;
 /// The first bytes of every state file, and its version.
 pub struct StartFormat;
 
-impl Format for StartFormat {
+impl Tells for StartFormat {
     type Item = u16;
 
     ghost Value = { ℕ };
 
     ghost view = { λ n. n };
 
-    ghost layout = { λ known before. start_layout };
+    ghost layout = { λ known. start_layout };
 
-    fn read(
-        _alloc: Global,
-        cursor: &mut Cursor,
-        _known: Known,
-        _before: &[u16],
-    ) -> Result<u16, FieldFault> {
+    ghost tells = { λ known version. record { version = version; count = 0 } };
+
+    fn read(_alloc: Global, cursor: &mut Cursor, _known: Known) -> Result<u16, FieldFault> {
         cursor.head(b"NOVASTAT")?;
         cursor.version_to(VERSION)
     }
-}
-
-impl Tells for StartFormat {
-    ghost tells = { λ known version. record { version = version; count = 0 } };
 
     fn tell(_known: Known, version: &u16) -> Known {
         Known {
