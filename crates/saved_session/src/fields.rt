@@ -4,7 +4,8 @@ ghost use Rattle.saved_session.specs.Fields.{machine_in, watch_in};
 ghost use Rattle.saved_session.specs.Parts.{file_in, state_in};
 
 use crate::saved::{
-    Saved, SavedBreak, SavedCpu, SavedEvent, SavedExpect, SavedFile, SavedPorts, SavedSend, SavedUnit,
+    Saved, SavedBreak, SavedCpu, SavedEvent, SavedExpect, SavedFile, SavedPorts, SavedSend,
+    SavedUnit,
 };
 
 /// The machine.

@@ -1,4 +1,4 @@
-use Rattle.std.proofs.Common.{ℕ, sym, ap, ◌∙◌}
+use Rattle.std.proofs.Common.{◌≡◌, ℕ, length, sym, ap, ◌∙◌, rules}
 use Rattle.std.proofs.lemmas.List.{length-map}
 use Rattle.byte_layouts.specs.declared.known.Known.{Known}
 use Rattle.byte_layouts.proofs.telling.ListOfTells.tell.Goals as goal
@@ -8,4 +8,6 @@ known_by version count = record { version = version; count = count }
 
 pub returns : goal.returns
 unfolding known_by
-returns g c = record { told = ap (known_by c.args.known.version) (c.len.ensures ∙ sym (length-map c.args.items.now.items g.R.Format.view)) }
+returns g c =
+    let all : c.len.result ≡ length c.args.items.now.items = search rules in
+    record { told = ap (known_by c.args.known.version) (all ∙ sym (length-map c.args.items.now.items g.R.Format.view)) }
