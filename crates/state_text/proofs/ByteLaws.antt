@@ -38,8 +38,7 @@ words_are words = all_fit (λ front. IsOfBytes word_layout) (λ front w. tt) [] 
 rows_are : (version : ℕ) (s : State) → StateIsOfBytes s → IsOfBytes state_layout (version, s)
 unfolding state_layout cpu_layout registers_layout ports_layout
 rows_are version s is =
-    let first = version == 1 in
-    (
+    let first = version == 1 in (
       ((omega arith, (omega arith, (omega arith, (omega arith, (omega arith, (omega arith, (omega arith, (omega arith, tt)))))))), tt),
       (
         (

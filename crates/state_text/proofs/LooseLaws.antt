@@ -20,8 +20,7 @@ first_widths : (s : State) → HasWidths s → IsOfFirst s → Has (loose state_
 unfolding state_layout cpu_layout ports_layout
 first_widths s wide first =
     let cpu = wide.1.0.0 in
-    let behind = wide.1.1.1 in
-    (
+    let behind = wide.1.1.1 in (
       (tt, (omega arith, refl)),
       (
         ((cpu.0, (cpu.1.0, (first.autobit, cpu.1.1.1))), wide.1.0.1),
@@ -76,8 +75,7 @@ pub record TablesHaveWidths (w : WatchPart) : Type 0 where
 pub session_widths : (s : State) → IsMachine s.machine → Fits s → AllByRecursion FileHasWidths s.files → PortsHaveWidths s.ports → TablesHaveWidths s.watch → HasWidths s
 unfolding state_layout ports_layout
 session_widths s machine fits files ports tables =
-    let count = length s.machine.units in
-    (
+    let count = length s.machine.units in (
       (tt, (omega arith, refl)),
       (
         loosened (memory_rows this_version) (memory_in s.machine) (memory_from this_version s.machine (now_autobit s.machine.cpu.autobit machine.cpu.autobit) machine),

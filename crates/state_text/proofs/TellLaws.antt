@@ -1,12 +1,14 @@
 -- What a reading of pieces tells at the end is what all of them say.
 use Rattle.std.proofs.Common.{◌≡◌, ℕ, ◌<◌, cond, List, ◌++◌, length, take, drop, Result, Ok, Err, sym, ap, subst, ◌∙◌, append-nil, arith, inl, inr}
-use Rattle.std.specs.Prelude.{OnOk}
+use Rattle.std.specs.Prelude.{OnOk, map}
 use Rattle.std.specs.Str.{bytes_eq}
 use Rattle.std.specs.declared.alloc.AllocError.{AllocError}
-use Rattle.std.proofs.lemmas.List.{take_at, length-append, length-drop}
+use Rattle.std.proofs.lemmas.List.{take_at, length-append, length-drop, map-id}
 use Rattle.sha2.specs.Sha256.{sha256}
 use Rattle.sha2.specs.Hashers.{Holds256}
 use Rattle.saved_session.specs.declared.saved.Saved.{Saved}
+use Rattle.saved_session.specs.declared.saved.SavedEvent.{SavedEvent}
+use Rattle.saved_session.specs.declared.saved.SavedSend.{SavedSend}
 use Rattle.saved_session.specs.Parts.{State, state_in}
 use Rattle.byte_layouts.specs.declared.fault.FieldFault.{FieldFault}
 use Rattle.byte_layouts.specs.declared.fault.FieldFault.TheVariants.{NotHead, Version, Truncated, OutOfMemory}
@@ -84,3 +86,8 @@ tells_sealed y kept h fed s result size it is told =
     ∙ ap (λ (x : State). then_state (counted 32 rest) (compared x (sha256 (take h.place fed)))) is
     ∙ ap (λ (z : Result ((ℕ × State) × At) FieldFault). then_state z (sealed fed)) (sym read))
     (told it.keeps.done it.keeps.hashed)
+
+-- lists that are seen as they are
+pub same_lists : (words : List ℕ) (agenda : List SavedEvent) (sends : List SavedSend) (f : List ℕ → List SavedEvent → List SavedSend → State)
+    → f words agenda sends ≡ f (map (λ (n : ℕ). n) words) (map (λ (e : SavedEvent). e) agenda) (map (λ (s : SavedSend). s) sends)
+same_lists words agenda sends f = λ i. f (sym (map-id words) i) (sym (map-id agenda) i) (sym (map-id sends) i)

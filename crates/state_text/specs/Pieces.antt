@@ -28,7 +28,7 @@ rest_of_memory known r =
 -- what a run watches
 abbrev pub rest_of_tables : StateReader → Reader Tables
 rest_of_tables r =
-    let tables = r.reading.part.behind.second.behind.third in
+    let tables = r.reading.part.behind.second.behind.parts.third in
     let breaks = tables.first.first in
     let expects = tables.first.second in
     let sends = tables.second.second in
@@ -41,7 +41,7 @@ rest_of_tables r =
 -- what stands behind the units
 abbrev pub rest_behind : Known → StateReader → Reader Behind
 rest_behind known r =
-    let part = r.reading.part.behind.second.behind in
+    let part = r.reading.part.behind.second.behind.parts in
     let events = part.first in
     let files = part.second.first in
     both (rest_of_list (reading (Number Two few_events)) (λ front. reading (event_layout known.count front)) events.counted events.left (map (λ (e : SavedEvent). e) events.items.items))

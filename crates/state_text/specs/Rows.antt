@@ -1,6 +1,6 @@
 -- The rows of a state file: each section's fields in their order, each with what it can hold. There are two versions of the
 -- format: the first one has no flag of the auto-index rule, no multiplexer and no ports but that of the second teletype.
-use Rattle.std.specs.Prelude.{ℕ, Bool, true, ◌+◌, ◌-◌, ◌*◌, ◌&&◌, ◌||◌, ◌==◌, not, nat_le, List, length, slice_get, codes, Option, Some, None, refl}
+use Rattle.std.specs.Prelude.{ℕ, Bool, true, false, ◌+◌, ◌-◌, ◌*◌, ◌&&◌, ◌||◌, ◌==◌, not, nat_le, List, length, slice_get, codes, Option, Some, None, refl}
 use Rattle.std.specs.Str.{is_utf8}
 use Rattle.unit_trait.specs.declared.kind.Kind.{Kind}
 use Rattle.saved_session.specs.declared.saved.SavedCpu.{SavedCpu}

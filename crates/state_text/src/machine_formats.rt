@@ -136,11 +136,7 @@ impl Measure for CpuFormat {
     ghost count = { word_count };
 
     #[tactic(auto, unfolding(crate::specs::Rows::cpu_layout))]
-    fn read(
-        _alloc: Global,
-        cursor: &mut Cursor,
-        known: Known,
-    ) -> Result<SavedCpu, FieldFault> {
+    fn read(_alloc: Global, cursor: &mut Cursor, known: Known) -> Result<SavedCpu, FieldFault> {
         Ok(SavedCpu {
             size_k: size(cursor)?,
             acs: accumulators(cursor)?,

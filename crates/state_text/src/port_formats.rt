@@ -69,12 +69,7 @@ fn listed_port(cursor: &mut Cursor, listed: bool, tti1: u16) -> Result<u16, Fiel
 
 // The console's port, where the version has it.
 #[tactic(auto, using(crate::proofs::VersionLaws::in_first, crate::proofs::VersionLaws::in_later))]
-fn console_port(
-    cursor: &mut Cursor,
-    version: u16,
-    tti1: u16,
-    qty: u16,
-) -> Result<u16, FieldFault>
+fn console_port(cursor: &mut Cursor, version: u16, tti1: u16, qty: u16) -> Result<u16, FieldFault>
     ensures { Reads (λ x. x) result cursor.new (reading (console_row version tti1 qty) cursor.old) }
 {
     if version == 1 {

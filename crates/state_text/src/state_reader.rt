@@ -14,42 +14,20 @@ ghost use Rattle.state_text.specs.Gives.{Gives};
 ghost use Rattle.state_text.specs.Pieces.{IsFed, HasFailed};
 
 use crate::fault::StateFault;
-use crate::file_formats::FileFormat;
-use crate::machine_formats::{CpuFormat, EventFormat, StartFormat, UnitFormat, WordFormat};
-use crate::port_formats::PortsFormat;
-use crate::watch_formats::{BreakFormat, ExpectFormat, SendFormat, TailFormat};
-use byte_layouts::{Both, Elements, ListOf, Measured, One, Part, Pending, Reading, Telling, Three};
-use saved_session::{
-    Saved, SavedBreak, SavedCpu, SavedEvent, SavedExpect, SavedFile, SavedPorts, SavedSend,
-    SavedUnit,
-};
+use crate::behind_units::{BehindUnits, FoundBehind};
+use crate::machine_formats::{CpuFormat, StartFormat, UnitFormat, WordFormat};
+use byte_layouts::{Both, ListOf, Measured, Part, Pending, Reading, Telling};
+use saved_session::{Saved, SavedCpu, SavedUnit};
 use std::alloc::{AllocError, Global};
 
 /// How many bytes are kept behind the last row: the digest, and one that stands behind the end.
 const KEPT: usize = 33;
 
-type Tables = Both<
-    Both<Elements<BreakFormat>, Elements<ExpectFormat>>,
-    Both<One<TailFormat>, Elements<SendFormat>>,
->;
-
-/// What stands behind the units, which tell how many they are.
-type Behind = Three<Elements<EventFormat>, Both<Elements<FileFormat>, One<PortsFormat>>, Tables>;
-
 /// What stands behind the version, which is told to all of it.
-type Versioned = Both<Measured<CpuFormat, WordFormat>, Telling<ListOf<UnitFormat>, Behind>>;
+type Versioned = Both<Measured<CpuFormat, WordFormat>, Telling<ListOf<UnitFormat>, BehindUnits>>;
 
 /// The parts of a state file, in their order.
 pub type Parts = Telling<StartFormat, Versioned>;
-
-/// What was read of what a run watches.
-type FoundTables = (
-    (Vec<SavedBreak>, Vec<SavedExpect>),
-    (Vec<u8>, Vec<SavedSend>),
-);
-
-/// What was read behind the units.
-type FoundBehind = (Vec<SavedEvent>, ((Vec<SavedFile>, SavedPorts), FoundTables));
 
 /// What was read of all parts.
 type Found = (u16, ((SavedCpu, Vec<u16>), (Vec<SavedUnit>, FoundBehind)));
