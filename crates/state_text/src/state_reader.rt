@@ -13,8 +13,8 @@ ghost use Rattle.state_text.specs.Reading.{then_state, compared, reading};
 ghost use Rattle.state_text.specs.Gives.{Gives};
 ghost use Rattle.state_text.specs.Pieces.{IsFed, HasFailed};
 
-use crate::fault::StateFault;
 use crate::behind_units::{BehindUnits, FoundBehind};
+use crate::fault::StateFault;
 use crate::machine_formats::{CpuFormat, StartFormat, UnitFormat, WordFormat};
 use byte_layouts::{Both, ListOf, Measured, Part, Pending, Reading, Telling};
 use saved_session::{Saved, SavedCpu, SavedUnit};
