@@ -6,8 +6,8 @@ ghost use Rattle.byte_layouts.specs.Layout.{One, Two, Head, Version, Number, ◌
 
 use crate::checked::holds;
 use byte_layouts::{
-    Cursor, Elements, FieldFault, Format, Known, ListFormat, Reading, Telling, Tells, Writes, put_u8,
-    put_u16, read_whole, write_list,
+    Cursor, Elements, FieldFault, Format, Known, ListFormat, Reading, Telling, Tells, Writes,
+    put_u8, put_u16, read_whole, write_list,
 };
 use std::alloc::{AllocError, Global};
 use std::test::Fail;
@@ -25,11 +25,7 @@ impl Tells for StartFormat {
 
     ghost tells = { λ known v. record { version = v.1; count = 0 } };
 
-    fn read(
-        _alloc: Global,
-        cursor: &mut Cursor,
-        _known: Known,
-    ) -> Result<((), u16), FieldFault> {
+    fn read(_alloc: Global, cursor: &mut Cursor, _known: Known) -> Result<((), u16), FieldFault> {
         cursor.head(b"MARKS")?;
         Ok(((), cursor.version_to(2)?))
     }
@@ -46,11 +42,7 @@ impl Tells for StartFormat {
 fn most(version: u16) -> u16
     ensures { result ≡ (if version == 1 then 9 else 1000) }
 {
-    if version == 1 {
-        9
-    } else {
-        1000
-    }
+    if version == 1 { 9 } else { 1000 }
 }
 
 struct MarkFormat;
