@@ -10,9 +10,9 @@ use crate::state_reader::StateReader;
 use saved_session::Saved;
 use std::alloc::Global;
 
-/// Reads a state file, from all of its bytes, to a session that is valid and whose text they are, in either version. The error is the
-/// first fault of the bytes from the left, and the digest's where there is no other; or `OutOfMemory`, where there is
-/// none for what they say. Nothing else is left behind either.
+/// Reads a state file, from all of its bytes, to a session that is valid and whose text they are, in this version or in
+/// the first one. The error is the first fault of the bytes from the left, and the digest's where there is no other; or
+/// `OutOfMemory`, where there is none for what they say. Nothing else is left behind either.
 pub fn read_state(alloc: Global, bytes: &[u8]) -> Result<Saved, StateFault>
     // What is read is valid, and the bytes are its text, in this version or in the first one.
     ensures found { IfOk result (λ s. Valid (state_in s) × IsTextOf (state_in s) bytes.now) }
