@@ -30,7 +30,7 @@ const OLD: &[u8] = b"old";
 const SECTOR: &[u8] = b"AR\0\0";
 
 /// How a state file begins.
-const HEAD: &[u8] = b"NOVASTAT\0\x01";
+const HEAD: &[u8] = b"NOVASTAT\0\x02";
 
 /// Rows before a command in two tables, the line of the command, and rows behind it.
 #[derive(Clone, Copy)]
