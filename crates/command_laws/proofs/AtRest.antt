@@ -218,7 +218,6 @@ savable s files rest all =
       can = record {
         memory = valid.machine.memory;
         size = valid.machine.size;
-        rule = valid.machine.rule;
         places = valid.machine.places;
         seen = erased-same s.machine is.machine;
         copy = rest.copy;

@@ -175,7 +175,6 @@ flushed-machine : (m : MachineState) → ValidMachine m → ValidMachine (flushe
 flushed-machine m is = record {
   memory = is.memory;
   size = is.size;
-  rule = is.rule;
   cpu = is.cpu;
   mask = is.mask;
   switches = is.switches;

@@ -1,5 +1,5 @@
 -- What is done on the console line.
-use Rattle.std.proofs.Common.{◌≡◌, ◌∙◌, ap, sym, refl, subst, ℕ, suc, Bool, true, false, IsTrue, List, [], ◌∷◌, map, slice_get, slice_set, Option, Some, None, is_some, ◌||◌, option_map, inl, inr, nat_le, if◌then◌else◌}
+use Rattle.std.proofs.Common.{◌≡◌, ◌∙◌, ap, sym, refl, subst, ℕ, suc, Bool, true, false, not, true≢false, IsTrue, List, [], ◌∷◌, map, slice_get, slice_set, Option, Some, None, is_some, ◌||◌, option_map, inl, inr, nat_le, if◌then◌else◌}
 use Rattle.std.proofs.lemmas.Option.{same_Some}
 use Rattle.host_lines.specs.Traffic.{Peer, Answer, Ahead}
 use Rattle.host_lines.specs.Told.{IsFirst, record_in, ahead_of}
@@ -19,7 +19,7 @@ use Rattle.nova_machine.specs.declared.on_line.OnLine.{OnLine}
 use Rattle.nova_machine.specs.declared.on_line.OnLine.TheVariants.{Gets}
 use Rattle.nova_machine.specs.Wants.{first_key, got_of_key, key_stop}
 use Rattle.nova_machine.specs.OnLines.{Lined, Around, around_at, lined, lined_by, put_by, put_line, put_got, with_port, console_in, is_ported, console_polled, console_put}
-use Rattle.nova_machine.specs.OnLine.{got_on, stop_on, expects_on, IsOffLine}
+use Rattle.nova_machine.specs.OnLine.{got_on, stop_on, expects_on, IsOffLine, is_off_line}
 use Rattle.nova_machine.specs.LineChanges.{ports_of, AreLinesTold, DoneOnLine, DoneAs}
 use Rattle.nova_machine.proofs.LineSteps.{StepsAt, IsOnLine, done-plain, seen-put, put-seen-parts}
 
@@ -237,3 +237,24 @@ send_some time (first ∷ others) send there =
     by false = refl
 
 pub ruleset sends_due = (send_none, send_some)
+
+-- ---- a want that is for no line, whichever key is due
+
+unported : (ported : Bool) → not ported ≡ true → ported ≡ false
+unported true off = sym off
+unported false off = refl
+
+pub off-as : (time : ℕ) (due : Option ℕ) (expects : ExpectTable) (w : Want) (s : LineState) (lines : List (LineOf ℕ)) (whole : List Answer) → is_off_line w (is_ported lines) ≡ true
+    → DoneAs (lined w (around_at time due expects (map (seen_line s) lines) (ahead_of s.told whole))) None expects whole s s lines
+off-as time due expects (want.LineKey n) s lines whole off = absurd (true≢false (sym off))
+off-as time due expects (want.LinePut n byte) s lines whole off = absurd (true≢false (sym off))
+off-as time due expects want.Key s lines whole off = done-off-key time due expects s lines whole (unported (is_ported lines) off)
+off-as time due expects (want.Console byte) s lines whole off = done-off-byte time byte due expects s lines whole (unported (is_ported lines) off)
+off-as time due expects w s lines whole off = plain-as time due expects w s lines whole (λ on. on)
+
+pub off-off : (w : Want) (ported : Bool) (due : Option ℕ) → is_off_line w ported ≡ true → IsOffLine w ported due
+off-off (want.LineKey n) ported due off = tt
+off-off (want.LinePut n byte) ported due off = tt
+off-off want.Key ported due off = λ has. absurd (true≢false (sym has ∙ unported ported off))
+off-off (want.Console byte) ported due off = unported ported off
+off-off w ported due off = tt

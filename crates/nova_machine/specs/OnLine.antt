@@ -1,5 +1,5 @@
 -- What the code makes of a want for a line.
-use Rattle.std.specs.Prelude.{◌≡◌, ◌≢◌, ℕ, Bool, true, false, Option, Some, None, option_map}
+use Rattle.std.specs.Prelude.{◌≡◌, ◌≢◌, ℕ, Bool, true, false, not, Option, Some, None, option_map}
 use Rattle.unit_trait.specs.declared.calls.Want.{Want}
 use Rattle.unit_trait.specs.declared.calls.Want.TheVariants as want
 use Rattle.unit_trait.specs.declared.calls.Got.{Got}
@@ -59,3 +59,11 @@ abbrev pub IsOffLine : Want → Bool → Option ℕ → Type 0
 IsOffLine want.Key ported due = ported ≡ true → due ≢ None
 IsOffLine (want.Console byte) ported due = ported ≡ false
 IsOffLine other ported due = Unit {0}
+
+-- a want that is for no line, whichever key is due
+abbrev pub is_off_line : Want → Bool → Bool
+is_off_line (want.LineKey line) ported = false
+is_off_line (want.LinePut line byte) ported = false
+is_off_line want.Key ported = not ported
+is_off_line (want.Console byte) ported = not ported
+is_off_line other ported = true

@@ -13,7 +13,7 @@ ghost use Rattle.unit_trait.specs.declared.calls.Want.TheVariants as wants;
 ghost use Rattle.nova_machine.specs.declared.machine.Stop.TheVariants.{Expect};
 ghost use Rattle.nova_machine.specs.Wants.{first_key, got_of_key, key_stop};
 ghost use Rattle.nova_machine.specs.OnLines.{lined, around_at, got_of_line, put_line, put_got, is_ported, IsOfLine, IsOfPoll};
-ghost use Rattle.nova_machine.specs.OnLine.{got_on, stop_on, expects_on, IsKeyDone, IsByteDone, IsDoneOn, IsOffLine};
+ghost use Rattle.nova_machine.specs.OnLine.{got_on, stop_on, expects_on, IsKeyDone, IsByteDone, IsDoneOn, IsOffLine, is_off_line};
 ghost use Rattle.nova_machine.specs.LineChanges.{AreLinesTold, LinesGoOn, DoneOnLine, DoneAs};
 
 use crate::machine::Machine;
@@ -37,7 +37,61 @@ pub(crate) enum OnLine {
 impl<U: Unit> Machine<U> {
     /// Does what a unit wants of a line that is there, or of the console line where that has a port; answers what was
     /// done, or none, where it wants nothing of one, and then nothing has changed.
+    #[inline(always)]
     pub(crate) fn on_line<L: Lines>(
+        &mut self,
+        want: Want,
+        watch: &Watch,
+        keys: &Keys,
+        lines: &mut L,
+    ) -> Option<OnLine>
+        ensures machine { self.new ≡ record self.old { lines = self.new.lines } }
+        ensures lines { LinesGoOn L.tells (L.state lines.old) self.old.lines (L.state lines.new) self.new.lines }
+        ensures told { AreLinesTold L.tells (L.state lines.old) self.old.lines
+            → (whole : List Answer) → IsFirst (record_in (L.state lines.new).told) whole
+            → DoneAs (lined want (around_at self.old.time
+            (first_key (due_send self.old.time watch.now.sends) (due_key keys.now self.old.taken self.old.time))
+            watch.now.expects (map (seen_line (L.state lines.old)) self.old.lines)
+            (ahead_of (L.state lines.old).told whole))) result watch.now.expects whole (L.state lines.old)
+            (L.state lines.new) self.new.lines }
+        ensures none { result ≡ None → (self.new ≡ self.old) × (lines.new ≡ lines.old) }
+        ensures below { IfSome result (λ made. IsBelowEnd want (got_on made)) }
+        ensures of { IfSome result (λ made. IsOfLine (got_on made)) }
+        ensures wants { IfSome result (λ made. IsDoneOn want (is_ported self.old.lines)
+            (first_key (due_send self.old.time watch.now.sends) (due_key keys.now self.old.taken self.old.time)) made) }
+        ensures off { result ≡ None → IsOffLine want (is_ported self.old.lines)
+            (first_key (due_send self.old.time watch.now.sends) (due_key keys.now self.old.taken self.old.time)) }
+    {
+        // Most wants are for no line, and cost this test alone.
+        if self.is_off_line(want) {
+            return None;
+        }
+        self.work_on_line(want, watch, keys, lines)
+    }
+
+    /// Whether a unit wants nothing of a line: neither of a terminal line, nor of the console line where that has a
+    /// port.
+    #[inline(always)]
+    fn is_off_line(&self, want: Want) -> bool
+        ensures { result ≡ is_off_line want (is_ported self.now.lines) }
+    {
+        match want {
+            Want::LineKey(_) | Want::LinePut { line: _, byte: _ } => false,
+            Want::Key | Want::Console(_) => !self.is_console_ported(),
+            Want::Nothing
+            | Want::ReadByte { place: _ }
+            | Want::WriteByte { place: _, byte: _ }
+            | Want::Sector {
+                write: _,
+                sector: _,
+                address: _,
+            }
+            | Want::Tape(_) => true,
+        }
+    }
+
+    /// The same, whatever it wants.
+    fn work_on_line<L: Lines>(
         &mut self,
         want: Want,
         watch: &Watch,

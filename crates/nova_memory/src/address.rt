@@ -1,4 +1,4 @@
-ghost use Rattle.std.specs.Prelude.{◌≡◌, ℕ, ◌^◌, ◌<◌, ◌≤◌, IfOk};
+ghost use Rattle.std.specs.Prelude.{◌≡◌, ℕ, ◌%◌, ◌^◌, ◌<◌, ◌≤◌, nat_lt, IfOk};
 ghost use Rattle.std.specs.Result.{result_ok};
 ghost use Rattle.nova_memory.specs.Memory.{get, put};
 ghost use Rattle.nova_memory.specs.Address.{IsAutoIndex, displaced, indexed, changed, tested, chain, address};
@@ -42,43 +42,48 @@ impl Words {
         let mut at = from;
         for _level in 0..16u8 {
             let level = self.follow(at);
-            at = Addr::of_word(level.used);
-            if level.tested.0 < 0o100000 {
-                return Ok(at);
+            match Addr::new(level.0) {
+                Some(end) => return Ok(end),
+                None => at = Addr::of_word(level),
             }
         }
         Err(ChainLimit)
     }
 
-    /// The word through which an indirect reference passes there, changed and stored.
+    /// Changes the word through which an indirect reference passes there. The answer's low 15 bits are where the
+    /// reference goes, and its bit 0 says whether it goes on.
     #[inline(always)]
-    fn follow(&mut self, at: Addr) -> Level
-        ensures used { result.used ≡ changed at (get self.old at) }
-        ensures tested { result.tested ≡ tested self.old.before (get self.old at) (changed at (get self.old at)) }
+    fn follow(&mut self, at: Addr) -> Word
+        ensures address { result % 2 ^ 15 ≡ changed at (get self.old at) % 2 ^ 15 }
+        ensures ends { nat_lt result (2 ^ 15)
+            ≡ nat_lt (tested self.old.before (get self.old at) (changed at (get self.old at))) (2 ^ 15) }
         ensures memory { self.new ≡ put self.old at (changed at (get self.old at)) }
     {
         let word = self.read(at);
         if at.number() / 16 != 1 {
-            return Level {
-                used: word,
-                tested: word,
-            };
+            return word;
+        }
+        if self.before {
+            return self.follow_by_old(at, word);
         }
         let used = changed(at, word);
-        self.write(at, used);
-        Level {
-            used,
-            tested: if self.before { word } else { used },
-        }
+        self.write_low(at, used);
+        used
     }
-}
 
-/// What an indirect reference meets at one level: the word that it goes by, and the one whose bit 0 says whether it
-/// goes on.
-#[derive(Clone, Copy)]
-struct Level {
-    used: Word,
-    tested: Word,
+    /// The same through one of 20 to 37 (octal) whose word is tested before its change. It is a call of its own, so that
+    /// the other rule pays for the flag alone.
+    #[cold]
+    #[inline(never)]
+    fn follow_by_old(&mut self, at: Addr, word: Word) -> Word
+        ensures address { result % 2 ^ 15 ≡ changed at word % 2 ^ 15 }
+        ensures ends { nat_lt result (2 ^ 15) ≡ nat_lt word (2 ^ 15) }
+        ensures memory { self.new ≡ put self.old at (changed at word) }
+    {
+        let used = changed(at, word);
+        self.write(at, used);
+        Word(used.0 % 0o100000 + word.0 / 0o100000 * 0o100000)
+    }
 }
 
 /// The address that a memory reference, which stands at `pc`, names before it is followed. One accumulator is read at

@@ -69,6 +69,16 @@ impl Words {
         }
     }
 
+    /// Puts a word at one of the first 4096 addresses, at which every machine has memory.
+    #[inline(always)]
+    pub(crate) fn write_low(&mut self, at: Addr, w: Word)
+        requires { at < 4096 }
+        ensures { self.new ≡ put self.old at w }
+    {
+        let _ = &self.size;
+        self.words[usize::from(at.number())] = w.0;
+    }
+
     /// Gives the machine that many words. The words below that stay, and all others are 0 from then on.
     pub(crate) fn set_size(&mut self, words: u16)
         requires { IsSize words }
