@@ -39,11 +39,6 @@ HavePortsApart (line ∷ others) = (line.port ≢ Some 0) × (OthersHaveNone lin
 abbrev pub HaveNone : {P : Type 0} → List (LineOf P) → Type 0
 HaveNone {P} lines = AllByRecursion (λ (line : LineOf P). line.port ≡ None) lines
 
-abbrev pub OnlyOneHas : {P : Type 0} → ℕ → List (LineOf P) → Type 0
-OnlyOneHas place [] = Unit {0}
-OnlyOneHas zero (line ∷ others) = HaveNone others
-OnlyOneHas (suc place) (line ∷ others) = (line.port ≡ None) × OnlyOneHas place others
-
 -- the first of these lines has that port, and each other one the port behind that of the line before it; or none of them has one
 abbrev pub HavePortsFrom : {P : Type 0} → Option ℕ → List (LineOf P) → Type 0
 HavePortsFrom port [] = Unit {0}
