@@ -1,5 +1,5 @@
 // The ports of a saved session are listened on, and its lines get them.
-ghost use Rattle.std.specs.Prelude.{◌≡◌, ◌≢◌, ◌+◌, ◌≤◌, ◌^◌, ◌++◌, Some, [], IsOk, OnOk, OnErr, IfErr};
+ghost use Rattle.std.specs.Prelude.{◌≡◌, ◌≢◌, ◌+◌, ◌<◌, ◌≤◌, ◌^◌, ◌++◌, [], IsOk, OnOk, OnErr, IfErr};
 ghost use Rattle.terminal_ports.specs.Listening.{rising, ListensEach};
 ghost use Rattle.nova_machine.specs.Machine.{console_place, place_of as line_place};
 ghost use Rattle.state_transfer.specs.Listening.{GivesUpEach, IsHeardOn, IsPortFault, port_fault};
