@@ -1,8 +1,11 @@
 -- Whose refusal that of a session is, and what it leaves of the lines.
-use Rattle.std.proofs.Common.{◌≡◌, ◌≢◌, ◌×◌, inl, inr, ℕ, zero, suc, ◌+◌, ◌-◌, ◌<◌, Bool, false, List, [], ◌∷◌, ◌++◌, map, Ok, Err, refl, ap, sym, subst, ◌∙◌, arith}
+use Rattle.std.proofs.Common.{◌≡◌, ◌≢◌, inl, inr, ℕ, zero, suc, ◌+◌, ◌-◌, ◌<◌, ◌≤◌, ◌&&◌, ◌||◌, ◌==◌, not, Bool, true, false, List, [], ◌∷◌, ◌++◌, map, Ok, Err, refl, ap, sym, subst, ◌∙◌, arith}
+use Rattle.std.specs.Prelude.{nat_le}
+use Rattle.std.proofs.lemmas.Bool.{and_parts, leb-true, eqb-true}
 use Rattle.std.proofs.lemmas.List.{append_assoc}
 use Rattle.file_traits.specs.State.{FileState}
 use Rattle.host_lines.specs.declared.lines.ListenFault.{ListenFault}
+use Rattle.host_lines.specs.declared.lines.ListenFault.TheVariants as listen
 use Rattle.host_lines.specs.Told.{Told}
 use Rattle.host_lines.specs.LineCalls.{Listens, listen_faults}
 use Rattle.host_lines.specs.State.{LineState, parties, with_one, without_one}
@@ -10,7 +13,8 @@ use Rattle.terminal_ports.specs.Listening.{rising, listens_each, given_up, Tells
 use Rattle.terminal_ports.proofs.Row.{row-none, row-some, back-again}
 use Rattle.saved_files.specs.declared.file_faults.RestoreFault.{RestoreFault}
 use Rattle.saved_files.specs.declared.file_faults.RestoreFault.TheVariants as fault
-use Rattle.state_transfer.specs.Listening.{IsHeardOn, IsPortFault, LeavesLines, GivesUpEach}
+use Rattle.saved_session.specs.Ranges.{is_among, is_multiplexer_port}
+use Rattle.state_transfer.specs.Listening.{port_fault, IsHeardOn, IsPortFault, LeavesLines, GivesUpEach}
 use Rattle.state_transfer.specs.Putting.{SaysMissing}
 use Rattle.saved_session.specs.Parts.{FilePart}
 use Rattle.saved_files.specs.PuttingCauses.{count_behind, openings_named, IsCompared, OpeningsStand, SessionCause}
@@ -116,6 +120,26 @@ port-unopened tells (fault.Changed unit) is = absurd is
 port-unopened tells fault.MissingUnit is = absurd is
 port-unopened tells fault.Port is = refl
 port-unopened tells fault.OutOfMemory is = refl
+
+pub is-port-fault : (f : ListenFault) → IsPortFault (port_fault f)
+is-port-fault listen.Failed = tt
+is-port-fault listen.OutOfMemory = tt
+
+pub heard-fault : (tells : Bool) (ports : List ℕ) (f : ListenFault) (old new : LineState)
+    → ListensEach tells ports (Err f) old new → IsHeardOn tells ports (Err (port_fault f)) old new
+heard-fault tells ports listen.Failed old new each = each
+heard-fault tells ports listen.OutOfMemory old new each = each
+
+-- the ports of a valid session are within their range
+pub multiplexer-low : (listed : Bool) (tti1 first : ℕ) → is_multiplexer_port listed tti1 first ≡ true → first ≤ 65472
+multiplexer-low listed tti1 first is = by-test (first == 0) refl
+  where
+    by-test : (b : Bool) → (first == 0) ≡ b → first ≤ 65472
+    by-test true none = let zero_port = eqb-true first 0 none in omega (arith, zero_port)
+    by-test false some =
+        let rest : (listed && (nat_le first 65472 && not (is_among first tti1))) ≡ true =
+        sym (ap (λ (x : Bool). x || (listed && (nat_le first 65472 && not (is_among first tti1)))) some) ∙ is in
+        leb-true first 65472 (and_parts (nat_le first 65472) (not (is_among first tti1)) (and_parts listed _ rest).1).0
 
 -- ---- a row of ports that is given up
 

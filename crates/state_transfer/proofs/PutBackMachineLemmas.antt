@@ -1,6 +1,6 @@
 -- The units and the events of a saved machine as they are put back.
 use Rattle.std.proofs.Common.{◌≡◌, ◌⊎◌, ℕ, zero, suc, ◌+◌, ◌≤◌, ◌<◌, ◌&&◌, ◌||◌, ◌==◌, eqb, not, if◌then◌else◌, append-nil, subst, Bool, true, false, List, [], ◌∷◌, ◌++◌, length, map, take, Option, Some, inl, inr, refl, sym, ap, ◌∙◌, arith}
-use Rattle.std.specs.Prelude.{nat_le, nat_lt, slice_get, option_map}
+use Rattle.std.specs.Prelude.{nat_le, nat_lt, slice_get, slice_set, replicate, option_map}
 use Rattle.std.specs.List.{AllByRecursion, IsDistinct, list_any}
 use Rattle.std.proofs.lemmas.Bool.{and_from, and_parts, or_from, or_parts, not-true, false_from_ne_true, both_ways, leb-true, ltb-true, ltb-false, eq-eqb, eqb-true}
 use Rattle.std.proofs.lemmas.List.{length-map, length-append}
@@ -8,6 +8,7 @@ use Rattle.unit_trait.specs.declared.kind.Kind.{Kind}
 use Rattle.unit_trait.specs.declared.kind.Kind.TheVariants.{Qty}
 use Rattle.unit_trait.specs.declared.kind.UnitName.{UnitName}
 use Rattle.unit_trait.specs.Kinds.{all_kinds, units_of, code_of, same_unit}
+use Rattle.unit_trait.specs.Multiplexer.{line_numbers}
 use Rattle.unit_trait.specs.Registers.{Register, registers, register_at}
 use Rattle.unit_trait.specs.Row.{InRange}
 use Rattle.unit_trait.specs.Calls.{UnitState}
@@ -126,6 +127,19 @@ lacks-told us count are = told (ten-or-eleven (length us) count)
     told (inl ten) = ap not (ten-lack (map unit_from us) (are-ten us ten are)) ∙ sym (ap (λ (n : ℕ). n == standard_kinds) ten)
     told (inr eleven) = ap not (eleven-have (map unit_from us) (are-eleven us eleven are)) ∙ sym (ap (λ (n : ℕ). n == standard_kinds) eleven)
 
+-- .. and so is whether it is missing, on either side
+pub missing-tested : (us : List UnitPart) (present : List UnitState) (n : ℕ) (b : Bool) → is_unit_count (length us) ≡ true
+    → Follow IsUnit next_number 0 us → n ≡ length us → b ≡ has_multiplexer present
+    → ((n == most_kinds) && not b) ≡ lack_multiplexer present (map unit_from us)
+missing-tested us present n b count are size has =
+    (λ i. (size i == most_kinds) && not (has i)) ∙ ap (λ (x : Bool). x && not (has_multiplexer present)) (sym (has-told us count are))
+
+pub lacking-tested : (us : List UnitPart) (present : List UnitState) (n : ℕ) (b : Bool) → is_unit_count (length us) ≡ true
+    → Follow IsUnit next_number 0 us → n ≡ length us → b ≡ has_multiplexer present
+    → (b && (n == standard_kinds)) ≡ lack_multiplexer (map unit_from us) present
+lacking-tested us present n b count are size has =
+    (λ i. has i && (size i == standard_kinds)) ∙ ap (λ (x : Bool). has_multiplexer present && x) (sym (lacks-told us count are))
+
 kinds-both : (us vs : List UnitState) → kinds_of (us ++ vs) ≡ kinds_of us ++ kinds_of vs
 kinds-both [] vs = refl
 kinds-both (u ∷ us) vs = ap (λ (ks : List Kind). u.kind ∷ ks) (kinds-both us vs)
@@ -172,9 +186,14 @@ as-many-units us present =
     let same = length-map us unit_from in
     omega (arith, both, same)
 
-pub first-fits : InRange (registers Qty) first_multiplexer.registers
+-- 131 registers, of which the third is 100
+pub registers_first : slice_set (replicate 131 0) 2 100 ≡ first_multiplexer.registers
+unfolding first_multiplexer line_numbers
+registers_first = refl
+
+pub first_fits : InRange (registers Qty) first_multiplexer.registers
 unfolding first_multiplexer
-first-fits = multiplexer-begins
+first_fits = multiplexer-begins
 
 fit-both : (us vs : List UnitState) → AllFit us → AllFit vs → AllFit (us ++ vs)
 fit-both [] vs one two = two

@@ -1,8 +1,8 @@
 -- Units and events of a saved machine that are put into one, one behind another.
-use Rattle.std.proofs.Common.{◌≡◌, ◌⊎◌, ◌&&◌, false≢true, append-nil, ℕ, zero, suc, ◌+◌, ◌<◌, ◌≤◌, ◌==◌, Bool, true, false, not, IsTrue, List, [], ◌∷◌, ◌++◌, length, map, take, drop, get_or, Option, Some, None, is_some, inl, inr, refl, sym, ap, subst, ◌∙◌, if◌then◌else◌}
+use Rattle.std.proofs.Common.{◌≡◌, ◌⊎◌, ◌&&◌, append-nil, arith, ℕ, zero, suc, ◌+◌, ◌<◌, ◌≤◌, ◌==◌, Bool, true, false, not, IsTrue, List, [], ◌∷◌, ◌++◌, length, map, take, drop, get_or, Option, Some, None, is_some, inl, inr, refl, sym, ap, subst, ◌∙◌, if◌then◌else◌}
 use Rattle.std.specs.Prelude.{nat_lt, slice_get, option_map}
 use Rattle.std.specs.List.{AllByRecursion, IsDistinct, list_any}
-use Rattle.std.proofs.lemmas.Bool.{and_parts, eq-eqb, ltb-true, lt-ltb}
+use Rattle.std.proofs.lemmas.Bool.{false≢true, and_parts, eq-eqb, ltb-true, lt-ltb}
 use Rattle.std.proofs.lemmas.Option.{slice_get-map}
 use Rattle.std.proofs.lemmas.List.{drop_more, drop_all, length-map}
 use Rattle.unit_trait.specs.declared.kind.Kind.{Kind}
@@ -58,6 +58,9 @@ each-fits (u ∷ us) fit = (fit.0, each-fits us fit.1)
 
 pub parts-long : (us : List SavedUnit) → length (map unit_in us) ≡ length us
 parts-long us = length-map us unit_in
+
+pub count-of-parts : (us : List SavedUnit) → is_unit_count (length us) ≡ true → is_unit_count (length (map unit_in us)) ≡ true
+count-of-parts us count = ap is_unit_count (parts-long us) ∙ count
 
 ten-distinct : IsDistinct same_kind (take standard_kinds all_kinds)
 unfolding IsDistinct

@@ -1,9 +1,10 @@
 -- Lines in rows, and the ports that they get.
-use Rattle.std.proofs.Common.{◌≡◌, ◌×◌, ℕ, zero, suc, ◌+◌, ◌-◌, ◌<◌, ◌≤◌, ◌&&◌, ◌==◌, Bool, true, false, not, List, [], ◌∷◌, ◌++◌, map, slice_get, slice_set, Option, Some, None, is_some, refl, ap, sym, ◌∙◌, arith}
+use Rattle.std.proofs.Common.{◌≡◌, ℕ, zero, suc, ◌+◌, ◌-◌, ◌<◌, ◌≤◌, ◌&&◌, ◌==◌, Bool, true, false, not, List, [], ◌∷◌, ◌++◌, map, slice_get, slice_set, Option, Some, None, is_some, refl, ap, sym, ◌∙◌, arith}
 use Rattle.telnet_lines.specs.Line.{LineOf, unconnected}
 use Rattle.terminal_ports.specs.Listening.{rising}
 use Rattle.terminal_ports.specs.Ports.{changed_at}
-use Rattle.nova_machine.specs.Machine.{console_place, place_of as line_place}
+use Rattle.terminal_ports.proofs.PortsApart.{changed-set}
+use Rattle.nova_machine.specs.Machine.{MachineState, console_place, place_of as line_place}
 use Rattle.saved_session.specs.declared.saved.SavedPorts.{SavedPorts}
 use Rattle.state_transfer.specs.Ports.{row_from, how_many, is_line, multiplexer_lines, assigned, ports_wanted, with_ports}
 
@@ -40,6 +41,36 @@ pub with-both : {P : Type 0} (first second : List (ℕ × ℕ)) (lines : List (L
 with-both [] second lines = refl
 with-both {P} (g ∷ first) second lines =
     with-both first second (changed_at g.0 (λ (line : LineOf P). unconnected (Some g.1)) lines)
+
+pub none-put : {P : Type 0} (n place port : ℕ) (lines : List (LineOf P)) → n ≡ 0 → lines ≡ with_ports (row_from n place port) lines
+none-put n place port lines none = sym (ap (λ (given : List (ℕ × ℕ)). with_ports given lines) (none-from n place port none))
+
+-- one line of a row more has its port
+pub one-more : (old m : MachineState) (n number port : ℕ) → 0 < n
+    → m ≡ record old { lines = changed_at (line_place number) (λ (line : LineOf ℕ). unconnected (Some port)) old.lines }
+    → record m { lines = with_ports (row_from (n - 1) (line_place (number + 1)) (port + 1)) m.lines }
+    ≡ record old { lines = with_ports (row_from n (line_place number) port) old.lines }
+one-more old m n number port some becomes =
+    let next : line_place (number + 1) ≡ line_place number + 1 = omega arith in
+    let all : row_from n (line_place number) port
+    ≡ (line_place number, port) ∷ row_from (n - 1) (line_place (number + 1)) (port + 1) =
+    some-from n (line_place number) port some
+    ∙ ap (λ (place : ℕ). (line_place number, port) ∷ row_from (n - 1) place (port + 1)) (sym next) in
+    ap (λ (x : MachineState). record x { lines = with_ports (row_from (n - 1) (line_place (number + 1)) (port + 1)) x.lines }) becomes
+    ∙ sym (ap (λ (given : List (ℕ × ℕ)). record old { lines = with_ports given old.lines }) all)
+
+-- the console line has its port
+pub console-put : (n port : ℕ) (lines : List (LineOf ℕ)) (line after : LineOf ℕ) → n ≤ 1 → 0 < n
+    → slice_get lines console_place ≡ Some line → after ≡ unconnected (Some port)
+    → slice_set lines console_place after ≡ with_ports (row_from n console_place port) lines
+console-put n port lines line after most some at becomes =
+    let one : n - 1 ≡ 0 = omega (arith, most, some) in
+    let row : row_from n console_place port ≡ (console_place, port) ∷ [] =
+    some-from n console_place port some
+    ∙ ap (λ (given : List (ℕ × ℕ)). (console_place, port) ∷ given) (none-from (n - 1) (console_place + 1) (port + 1) one) in
+    ap (slice_set lines console_place) becomes
+    ∙ changed-set (λ (line : LineOf ℕ). unconnected (Some port)) console_place lines line at
+    ∙ sym (ap (λ (given : List (ℕ × ℕ)). with_ports given lines) row)
 
 -- ---- the three rows
 
@@ -87,3 +118,22 @@ module _ {P : Type 0} (p : SavedPorts) (lines : List (LineOf P)) (a b c : ℕ)
       is_three ∙ ap (with_ports last) (is_two ∙ ap (with_ports high) is_one)
       ∙ sym (with-both high last (with_ports low lines)) ∙ sym (with-both low (high ++ last) lines)
       ∙ ap (λ (given : List (ℕ × ℕ)). with_ports given lines) (sym assigned-rows)
+
+-- the lines of a machine have their ports
+pub machine-given : (p : SavedPorts) (old one two three : MachineState) (a b c : ℕ)
+    → a ≡ how_many p.tti1 1 (is_line 0 old.lines) → b ≡ how_many p.qty multiplexer_lines (is_line multiplexer_lines old.lines)
+    → c ≡ how_many p.console 1 true
+    → one ≡ record old { lines = with_ports (row_from a (line_place 0) p.tti1) old.lines }
+    → two ≡ record one { lines = with_ports (row_from b (line_place 1) p.qty) one.lines }
+    → three ≡ record two { lines = with_ports (row_from c console_place p.console) two.lines }
+    → three ≡ record old { lines = with_ports (assigned p old.lines) old.lines }
+machine-given p old one two three a b c first second third is_one is_two is_three =
+    let low = row_from a (line_place 0) p.tti1 in
+    let high = row_from b (line_place 1) p.qty in
+    let last = row_from c console_place p.console in
+    is_three
+    ∙ ap (λ (m : MachineState). record m { lines = with_ports last m.lines })
+    (is_two ∙ ap (λ (m : MachineState). record m { lines = with_ports high m.lines }) is_one)
+    ∙ ap (λ (lines : List (LineOf ℕ)). record old { lines = lines })
+    (lines-given p old.lines a b c first second third (with_ports low old.lines) (with_ports high (with_ports low old.lines))
+    (with_ports last (with_ports high (with_ports low old.lines))) refl refl refl)
