@@ -212,6 +212,7 @@ impl<U: Unit> Machine<U> {
     }
 
     /// Whether the console line has a port.
+    #[inline(always)]
     #[tactic(auto, using(crate::proofs::ConsoleSteps::ported_is))]
     fn is_console_ported(&self) -> bool
         ensures { result ≡ is_ported self.now.lines }
