@@ -1,5 +1,5 @@
 -- The ports of several lines that stand in one list, in which each is named by its place.
-use Rattle.std.specs.Prelude.{◌≡◌, ◌≢◌, ℕ, zero, suc, List, [], ◌∷◌, Option, Some, None}
+use Rattle.std.specs.Prelude.{◌≡◌, ◌≢◌, ℕ, zero, suc, List, [], ◌∷◌, Option, Some, None, option_map}
 use Rattle.std.specs.List.{AllByRecursion}
 use Rattle.telnet_lines.specs.Line.{LineOf}
 
@@ -31,3 +31,13 @@ abbrev pub OnlyOneHas : {P : Type 0} → ℕ → List (LineOf P) → Type 0
 OnlyOneHas place [] = Unit {0}
 OnlyOneHas zero (line ∷ others) = HaveNone others
 OnlyOneHas (suc place) (line ∷ others) = (line.port ≡ None) × OnlyOneHas place others
+
+-- the first of these lines has that port, and each other one the port behind that of the line before it; or none of them has one
+abbrev pub HavePortsFrom : {P : Type 0} → Option ℕ → List (LineOf P) → Type 0
+HavePortsFrom port [] = Unit {0}
+HavePortsFrom port (line ∷ others) = (line.port ≡ port) × HavePortsFrom (option_map suc port) others
+
+-- the same, whichever port the first of them has, if any
+abbrev pub AreNumbered : {P : Type 0} → List (LineOf P) → Type 0
+AreNumbered [] = Unit {0}
+AreNumbered (line ∷ others) = HavePortsFrom (option_map suc line.port) others
