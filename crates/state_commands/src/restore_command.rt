@@ -25,7 +25,7 @@ ghost use Rattle.whole_files.specs.declared.whole.WholeFault.TheVariants.{OutOfM
 ghost use Rattle.whole_files.specs.Claims.{WholeCause};
 ghost use Rattle.command_session.specs.Live.{live_in, beyond};
 ghost use Rattle.command_session.specs.DiskFile.{StaysInStep};
-ghost use Rattle.command_session.specs.LinesLeft.{LinesLeft, Unlistened, AttachCause};
+ghost use Rattle.command_session.specs.LinesLeft.{LinesLeft, Unlistened, RestoreCause};
 ghost use Rattle.state_commands.specs.RestoredLines.{RestoresLines};
 ghost use Rattle.command_session.specs.Refusals.{IsUnrefused};
 ghost use Rattle.state_commands.specs.StateAnswers.{PutsBack};
@@ -54,12 +54,13 @@ use unit_trait::Unit;
 use whole_files::WholeFault;
 
 /// RESTORE reads the state file of a name piece by piece and closes it again, attaches the files that it names in bus
-/// order, each only to be read where it was and else to be changed, listens on its port, and puts the machine and the
+/// order, each only to be read where it was and else to be changed, listens on its ports, and puts the machine and the
 /// watch tables back as they were saved. Unless that is forced, each file has to have the length and the digest that it
-/// had. It prints nothing, and resets nothing.
+/// had. It prints nothing, and resets nothing. The file may be one of this version or of the first one.
 ///
-/// The refusals, in this order: `AlreadyAttached` where a unit has a file or a line a port; `NoFile`, `FileFailed` and
-/// `FileTooLong` of the state file, which has at most 1048576 bytes; the faults of its bytes; then of each file
+/// The refusals, in this order: `AlreadyAttached` where a unit has a file or a line, that of the console too, a port; `NoFile`, `FileFailed` and
+/// `FileTooLong` of the state file, which has at most 1048576 bytes; the faults of its bytes; `MissingUnit` where the
+/// machine lacks a unit of the session, before any file of a unit is opened; then of each file
 /// `NoFile`, `FileFailed` of its opening or its length, `FileTooLong`, `FileFailed` of a read, and `Changed`; and last
 /// `PortFailed`. `OutOfMemory` may come from the reading on. Behind a refusal the session is as it was, and each file
 /// that was opened is closed. Each call that failed is noted, but for the closing of a unit's file that was refused.
@@ -88,7 +89,7 @@ pub fn restore<U: Unit, F: Files, L: Lines>(
         session.new.machine.lines }
     ensures sent { (L.state lines.new).sent ≡ (L.state lines.old).sent }
     ensures unasked { IsRefused result → (Unlistened result → ⊥) → lines.new ≡ lines.old }
-    ensures listening { AttachCause L.tells result (L.state lines.old) (L.state lines.new) }
+    ensures listening { RestoreCause L.tells result (L.state lines.old) (L.state lines.new) }
     ensures line { result ≢ Err OutOfMemory → RestoresLines L.tells result (L.state lines.old)
         session.old.machine.lines (L.state lines.new) session.new.machine.lines }
     ensures step { IsTrue F.tells
