@@ -35,7 +35,7 @@ abbrev pub HavePortsApart : {P : Type 0} → List (LineOf P) → Type 0
 HavePortsApart [] = Unit {0}
 HavePortsApart (line ∷ others) = (line.port ≢ Some 0) × (OthersHaveNone line.port others × HavePortsApart others)
 
--- no line has a port but the one at that place
+-- no line has a port
 abbrev pub HaveNone : {P : Type 0} → List (LineOf P) → Type 0
 HaveNone {P} lines = AllByRecursion (λ (line : LineOf P). line.port ≡ None) lines
 
