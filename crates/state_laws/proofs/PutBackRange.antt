@@ -1,9 +1,9 @@
 -- A machine is in range once a valid state was put back.
-use Rattle.std.proofs.Common.{◌≡◌, ℕ, zero, suc, ◌+◌, ◌-◌, ◌*◌, ◌%◌, ◌<◌, ◌≤◌, ◌^◌, ◌&&◌, not, eqb, Bool, true, false, List, [], ◌∷◌, ◌++◌, length, map, replicate, get_or, append-nil, Option, Some, None, IfSome, inl, inr, refl, ap, subst, ◌∙◌, arith}
+use Rattle.std.proofs.Common.{◌≡◌, ℕ, zero, suc, ◌+◌, ◌-◌, ◌*◌, ◌%◌, ◌<◌, ◌≤◌, ◌^◌, ◌&&◌, not, eqb, Bool, true, false, List, [], ◌∷◌, ◌++◌, length, map, take, replicate, get_or, append-nil, Option, Some, None, IfSome, inl, inr, refl, sym, ap, subst, ◌∙◌, arith}
 use Rattle.std.specs.Prelude.{nat_le, bytes_eq, unwrap_or, slice_index_or, if◌then◌else◌}
 use Rattle.std.specs.List.{AllByRecursion}
 use Rattle.std.proofs.Math.Seq.{get_or-append_right}
-use Rattle.std.proofs.lemmas.Bool.{cond_both, and_parts, leb-true, ltb-true, eqb-true}
+use Rattle.std.proofs.lemmas.Bool.{cond_both, and_parts, false≢true, leb-true, ltb-true, eqb-true}
 use Rattle.std.proofs.lemmas.List.{length-map, length-append, length-replicate, length-set}
 use Rattle.file_traits.specs.Lists.{NamedBytes, bytes_of, find_file}
 use Rattle.unit_trait.specs.declared.kind.Kind.{Kind}
@@ -24,7 +24,7 @@ use Rattle.nova_machine.specs.Machine.{has_multiplexer}
 use Rattle.nova_machine.specs.Valid.{AreBytes, IsByteName, HasByteName, ValidMachine, CopyIsFile}
 use Rattle.saved_session.specs.declared.saved.SavedEvent.{SavedEvent}
 use Rattle.saved_session.specs.Parts.{UnitPart, FilePart, MachinePart}
-use Rattle.saved_session.specs.Ranges.{is_size, kind_at, FilePlace, is_name_length}
+use Rattle.saved_session.specs.Ranges.{standard_kinds, is_size, kind_at, FilePlace, is_name_length}
 use Rattle.saved_session.specs.Valid.{AreWords, Follow, IsUnit, IsEvent, IsMachine, IsFile}
 use Rattle.saved_session.specs.Order.{next_number, with_event, behind_file}
 use Rattle.saved_files.specs.Putting.{unit_of, attachment_of, with_file, with_all, copy_of}
@@ -126,9 +126,25 @@ kinds-both : (units others : List UnitState) → kinds_of (units ++ others) ≡ 
 kinds-both [] others = refl
 kinds-both (u ∷ units) others = ap (λ (l : List Kind). u.kind ∷ l) (kinds-both units others)
 
--- one unit of each kind
-abbrev of_each : List UnitState
-of_each = map (λ (kind : Kind). record { kind = kind; registers = [] }) all_kinds
+-- one unit of each of these kinds
+abbrev of_kinds : List Kind → List UnitState
+of_kinds kinds = map (λ (kind : Kind). record { kind = kind; registers = [] }) kinds
+
+-- whether the multiplexer is among them
+has-none : (units : List UnitState) → kinds_of units ≡ take standard_kinds all_kinds → has_multiplexer units ≡ false
+has-none units ten = there-kinds (code_of Qty) units (of_kinds (take standard_kinds all_kinds)) ten
+
+has-one : (units : List UnitState) → kinds_of units ≡ all_kinds → has_multiplexer units ≡ true
+has-one units all = there-kinds (code_of Qty) units (of_kinds all_kinds) all
+
+-- what is missing of the multiplexer, where it is there or not, and here or not
+abbrev missing_by : Bool → Bool → List UnitState
+missing_by there here = if there && not here then first_multiplexer ∷ [] else []
+
+-- where it is here, nothing of it is missing
+whole-put : (units : List UnitState) (there : Bool) → kinds_of units ≡ all_kinds → kinds_of (units ++ missing_by there true) ≡ all_kinds
+whole-put units true all = ap (λ (l : List UnitState). kinds_of l) (append-nil units) ∙ all
+whole-put units false all = ap (λ (l : List UnitState). kinds_of l) (append-nil units) ∙ all
 
 -- units that were standard ones are still so with what was missing
 pub all-standard : (units present : List UnitState) → AreStandard units → AreStandard (units ++ missing_from units present)
@@ -139,15 +155,22 @@ all-standard units present (inl ten) = by (lack_multiplexer units present)
     by true = inr (kinds-both units (first_multiplexer ∷ []) ∙ ap (λ (l : List Kind). l ++ Qty ∷ []) ten)
     by false = inl (ap (λ (l : List UnitState). kinds_of l) (append-nil units) ∙ ten)
 all-standard units present (inr all) =
-    let there : has_multiplexer units ≡ true = there-kinds (code_of Qty) units of_each all in
-    inr (ap (λ (b : Bool). kinds_of (units ++ missing-by (has_multiplexer present) b)) there ∙ by (has_multiplexer present))
-  where
-    missing-by : Bool → Bool → List UnitState
-    missing-by other here = if other && not here then first_multiplexer ∷ [] else []
+    inr (ap (λ (b : Bool). kinds_of (units ++ missing_by (has_multiplexer present) b)) (has-one units all) ∙ whole-put units (has_multiplexer present) all)
 
-    by : (other : Bool) → kinds_of (units ++ missing-by other true) ≡ all_kinds
-    by true = ap (λ (l : List UnitState). kinds_of l) (append-nil units) ∙ all
-    by false = ap (λ (l : List UnitState). kinds_of l) (append-nil units) ∙ all
+-- .. and of the kinds of the present ones, where no unit is missing among these
+pub kinds-put : (units present : List UnitState) → AreStandard units → AreStandard present → lack_multiplexer present units ≡ false
+    → kinds_of (units ++ missing_from units present) ≡ kinds_of present
+unfolding first_multiplexer
+kinds-put units present (inl ten) (inl same) found =
+    ap (λ (b : Bool). kinds_of (units ++ missing_by b (has_multiplexer units))) (has-none present same)
+    ∙ ap (λ (l : List UnitState). kinds_of l) (append-nil units) ∙ ten ∙ sym same
+kinds-put units present (inl ten) (inr all) found =
+    (λ i. kinds_of (units ++ missing_by (has-one present all i) (has-none units ten i)))
+    ∙ kinds-both units (first_multiplexer ∷ []) ∙ ap (λ (l : List Kind). l ++ Qty ∷ []) ten ∙ sym all
+kinds-put units present (inr all) (inl ten) found =
+    absurd (false≢true (sym found ∙ (λ i. has-one units all i && not (has-none present ten i))))
+kinds-put units present (inr all) (inr same) found =
+    ap (λ (b : Bool). kinds_of (units ++ missing_by (has_multiplexer present) b)) (has-one units all) ∙ whole-put units (has_multiplexer present) all ∙ sym same
 
 -- ---- the events
 
