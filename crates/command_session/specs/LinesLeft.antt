@@ -11,7 +11,7 @@ use Rattle.telnet_lines.specs.Line.{LineOf, unconnected}
 use Rattle.telnet_lines.specs.Joined.{seen_line}
 use Rattle.telnet_lines.specs.Many.{AreApart}
 use Rattle.terminal_ports.specs.Ports.{HavePortsApart}
-use Rattle.terminal_ports.specs.Listening.{IsListening}
+use Rattle.terminal_ports.specs.Listening.{IsListening, ListensEach}
 use Rattle.nova_machine.specs.LineChanges.{HasConnection, HearsOn}
 use Rattle.scp_parser.specs.Command.{Request, AttachPort, Restore}
 use Rattle.command_session.specs.declared.next.Next.TheVariants.{Go}
@@ -91,10 +91,22 @@ AttachCause tells (Err PortFailed) old new = NotListened (raised old.faults) old
 AttachCause tells (Err OutOfMemory) old new = NotListened old.faults old new × (IsTrue tells → new.told ≡ old.told)
 AttachCause tells answer old new = Unit {0}
 
+-- The ports of a saved session were listened on one behind another: one was not to be had, or memory ran out before it, and
+-- those before it were given up again.
+pub record SomeRefused (tells : Bool) (fault : ListenFault) (old new : LineState) : Type 0 where
+  pub ports : List ℕ
+  pub listened : ListensEach tells ports (Err fault) old new
+
+-- So it is with RESTORE. Where memory ran out, it did so there, or nothing was asked of the outside.
+abbrev pub RestoreCause : Bool → Answer → LineState → LineState → Type 0
+RestoreCause tells (Err PortFailed) old new = SomeRefused tells listen.Failed old new
+RestoreCause tells (Err OutOfMemory) old new = (new ≡ old) ⊎ SomeRefused tells listen.OutOfMemory old new
+RestoreCause tells answer old new = Unit {0}
+
 -- it is no answer of any other command
 abbrev pub ListenCause : Bool → Request → Answer → LineState → LineState → Type 0
 ListenCause tells (AttachPort kind port) answer old new = AttachCause tells answer old new
-ListenCause tells (Restore force name) answer old new = AttachCause tells answer old new
+ListenCause tells (Restore force name) answer old new = RestoreCause tells answer old new
 ListenCause tells request answer old new = answer ≢ Err PortFailed
 
 -- what a listening answers
