@@ -60,6 +60,8 @@ fn fault_named(wanted: &str) -> Option<CommandFault> {
         "AlreadyAttached" => Some(CommandFault::AlreadyAttached),
         "NotAttached" => Some(CommandFault::NotAttached),
         "PortFailed" => Some(CommandFault::PortFailed),
+        "PortTaken" => Some(CommandFault::PortTaken),
+        "MissingUnit" => Some(CommandFault::MissingUnit),
         "AssertFailed" => Some(CommandFault::AssertFailed),
         "NoFile" => Some(CommandFault::NoFile),
         "Full" => Some(CommandFault::Full),
