@@ -1,6 +1,6 @@
 -- The ports of several lines that stand in one list, in which each is named by its place.
-use Rattle.std.specs.Prelude.{◌≡◌, ◌≢◌, ℕ, zero, suc, List, [], ◌∷◌, Option, Some, None}
-use Rattle.std.specs.List.{AllByRecursion}
+use Rattle.std.specs.Prelude.{◌≡◌, ◌≢◌, ◌==◌, ℕ, zero, suc, Bool, false, List, [], ◌∷◌, Option, Some, None}
+use Rattle.std.specs.List.{AllByRecursion, list_any}
 use Rattle.telnet_lines.specs.Line.{LineOf}
 
 -- the lines, with the one at a place changed so; where there is none, they are as they were
@@ -8,6 +8,18 @@ abbrev pub changed_at : {P : Type 0} → ℕ → (LineOf P → LineOf P) → Lis
 changed_at place change [] = []
 changed_at zero change (line ∷ others) = change line ∷ others
 changed_at (suc place) change (line ∷ others) = line ∷ changed_at place change others
+
+-- whether a line has that port
+abbrev pub is_of : ℕ → Option ℕ → Bool
+is_of port None = false
+is_of port (Some own) = own == port
+
+abbrev pub owns : {P : Type 0} → ℕ → LineOf P → Bool
+owns port line = is_of port line.port
+
+-- whether one of these lines has it
+unfoldable pub is_taken : {P : Type 0} → ℕ → List (LineOf P) → Bool
+is_taken port lines = list_any (owns port) lines
 
 -- a line has another port than that one, where that is one, or has none
 abbrev pub HasOther : {P : Type 0} → Option ℕ → LineOf P → Type 0
