@@ -61,6 +61,8 @@ fn fault_named(wanted: &str) -> Option<CommandFault> {
         "NotAttached" => Some(CommandFault::NotAttached),
         "PortTaken" => Some(CommandFault::PortTaken),
         "PortFailed" => Some(CommandFault::PortFailed),
+        "PortTaken" => Some(CommandFault::PortTaken),
+        "MissingUnit" => Some(CommandFault::MissingUnit),
         "AssertFailed" => Some(CommandFault::AssertFailed),
         "NoFile" => Some(CommandFault::NoFile),
         "Full" => Some(CommandFault::Full),
