@@ -163,6 +163,7 @@ fn has_line<U: Unit>(machine: &Machine<U>, number: u8) -> bool
 fn row_of(port: u16, count: u8, there: bool) -> Row
     ensures port { result.port ≡ port }
     ensures count { result.count ≡ how_many port count there }
+    ensures few { result.count ≤ count }
 {
     Row {
         port,
