@@ -44,7 +44,8 @@ fn put_unit<U: Unit>(machine: &mut Machine<U>, unit: &SavedUnit)
     machine.set_unit_regs(kind_at(unit.position), &unit.registers);
 }
 
-/// What the registers of the multiplexer hold at first: the time of its lines is 100, and all others are 0.
+// What the registers of the multiplexer hold at first: the time of its lines is 100, and all others are 0.
+#[tactic(auto, using(crate::proofs::PutBackMachineLemmas::registers_first))]
 fn first_registers() -> [u32; 131]
     ensures { result ≡ first_multiplexer.registers }
 {
@@ -53,7 +54,17 @@ fn first_registers() -> [u32; 131]
     registers
 }
 
+// Whether the multiplexer is there, and not among the saved units.
+fn lacks_first<U: Unit>(machine: &Machine<U>, units: &[SavedUnit]) -> bool
+    requires all { IsTrue (is_unit_count (length units.now)) }
+    requires valid { Follow IsUnit next_number 0 (map unit_in units.now) }
+    ensures { result ≡ lack_multiplexer (map unit_from (map unit_in units.now)) machine.now.units }
+{
+    machine.has_unit(Kind::Qty) && units.len() == 10
+}
+
 // The registers of the multiplexer, as they are at first.
+#[tactic(auto, using(crate::proofs::PutBackMachineLemmas::first_fits))]
 fn put_first<U: Unit>(machine: &mut Machine<U>)
     ensures { machine.new ≡ record machine.old {
       units = with_registers_in multiplexer_kind first_multiplexer.registers machine.old.units;
@@ -71,7 +82,7 @@ pub fn put_units<U: Unit>(machine: &mut Machine<U>, units: &[SavedUnit])
     requires there { lack_multiplexer machine.old.units (map unit_from (map unit_in units.now)) ≡ false }
     ensures { machine.new ≡ record machine.old { units = units_from (map unit_in units.now) machine.old.units } }
 {
-    let lacks = units.len() == 10 && machine.has_unit(Kind::Qty);
+    let lacks = lacks_first(machine, units);
     for unit in units {
         put_unit(machine, unit);
     }

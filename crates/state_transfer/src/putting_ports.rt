@@ -1,9 +1,11 @@
 // The ports of a saved session are listened on, and its lines get them.
-ghost use Rattle.std.specs.Prelude.{◌≡◌, ◌≢◌, ◌+◌, ◌≤◌, ◌^◌, ◌++◌, Some, [], IsOk, OnOk, OnErr, IfErr};
+ghost use Rattle.std.specs.Prelude.{◌≡◌, ◌≢◌, ℕ, ◌+◌, ◌<◌, ◌≤◌, ◌^◌, ◌++◌, Some, [], IsOk, OnOk, OnErr, IfErr};
+ghost use Rattle.telnet_lines.specs.Line.{LineOf, unconnected};
 ghost use Rattle.terminal_ports.specs.Listening.{rising, ListensEach};
+ghost use Rattle.terminal_ports.specs.Ports.{changed_at};
 ghost use Rattle.nova_machine.specs.Machine.{console_place, place_of as line_place};
 ghost use Rattle.state_transfer.specs.Listening.{GivesUpEach, IsHeardOn, IsPortFault, port_fault};
-ghost use Rattle.state_transfer.specs.Ports.{row_from, how_many, assigned, ports_wanted, with_ports};
+ghost use Rattle.state_transfer.specs.Ports.{row_from, how_many, is_line, assigned, ports_wanted, with_ports};
 
 use host_lines::{Lines, ListenFault};
 use nova_machine::Machine;
@@ -106,6 +108,18 @@ fn listen_three<L: Lines>(
 
 // ---- what the lines get
 
+// Gives the terminal line with that number a port, where it is there.
+fn put_one<U: Unit>(machine: &mut Machine<U>, number: u8, port: u16)
+    ensures { machine.new ≡ record machine.old {
+      lines = changed_at (line_place number) (λ (line : LineOf ℕ). unconnected (Some port)) machine.old.lines;
+    } }
+{
+    match machine.line(number) {
+        Some(line) => line.set_port(Some(port)),
+        None => (),
+    }
+}
+
 // Gives the terminal lines of a row their ports, from the one with that number on.
 fn put_row<U: Unit>(machine: &mut Machine<U>, number: u8, port: u32, count: u8)
     requires numbers { number + count < 2 ^ 8 }
@@ -117,26 +131,33 @@ fn put_row<U: Unit>(machine: &mut Machine<U>, number: u8, port: u32, count: u8)
     if count == 0 {
         return;
     }
-    match machine.line(number) {
-        Some(line) => line.set_port(Some(port as u16)),
-        None => (),
-    }
+    put_one(machine, number, port as u16);
     put_row(machine, number + 1, port + 1, count - 1);
 }
 
-// Gives the console line a port, where it gets one.
-fn put_console<U: Unit>(machine: &mut Machine<U>, row: Row)
-    requires { row.count ≤ 1 }
+// Gives the console line a port, or leaves it as it is.
+fn put_console<U: Unit>(machine: &mut Machine<U>, port: u16, count: u8)
+    requires { count ≤ 1 }
     ensures { machine.new ≡ record machine.old {
-      lines = with_ports (row_from row.count console_place row.port) machine.old.lines;
+      lines = with_ports (row_from count console_place port) machine.old.lines;
     } }
 {
-    if row.count != 0 {
-        machine.console().set_port(Some(row.port));
+    if count != 0 {
+        machine.console().set_port(Some(port));
     }
 }
 
 // ---- all of it
+
+// Whether a terminal line is there.
+fn has_line<U: Unit>(machine: &Machine<U>, number: u8) -> bool
+    ensures { result ≡ is_line number machine.now.lines }
+{
+    match machine.line_at(number) {
+        Some(_line) => true,
+        None => false,
+    }
+}
 
 // The ports of a row of so many lines: none where the first one is 0, or where the lines are not there.
 fn row_of(port: u16, count: u8, there: bool) -> Row
@@ -169,14 +190,14 @@ pub fn put_ports<U: Unit, L: Lines>(
     ensures wanted { OnErr result (ports_wanted ports machine.old.lines ≢ []) }
     ensures fault { IfErr result IsPortFault }
 {
-    let terminal = row_of(ports.tti1, 1, machine.line_at(0).is_some());
-    let multiplexer = row_of(ports.qty, 64, machine.line_at(64).is_some());
+    let terminal = row_of(ports.tti1, 1, has_line(machine, 0));
+    let multiplexer = row_of(ports.qty, 64, has_line(machine, 64));
     let console = row_of(ports.console, 1, true);
     match listen_three(alloc, terminal, multiplexer, console, lines) {
         Ok(()) => {
-            put_row(machine, 0, u32::from(terminal.port), terminal.count);
-            put_row(machine, 1, u32::from(multiplexer.port), multiplexer.count);
-            put_console(machine, console);
+            put_row(machine, 0, ports.tti1 as u32, terminal.count);
+            put_row(machine, 1, ports.qty as u32, multiplexer.count);
+            put_console(machine, ports.console, console.count);
             Ok(())
         }
         Err(fault) => Err(fault_of(fault)),
