@@ -20,7 +20,7 @@ use Rattle.command_session.specs.Reply.{Answer, Reply}
 use Rattle.scp_commands.specs.Effect.{effect}
 use Rattle.command_session.specs.Doing.{Does}
 use Rattle.command_session.specs.Remains.{Remains}
-use Rattle.command_session.specs.LinesLeft.{AreSessionLines}
+use Rattle.terminal_ports.specs.Ports.{HavePortsApart}
 
 -- a machine of this program, as it is seen: it has the standard units, and no numbers of files, nothing kept aside and no lines of
 -- its own
@@ -37,7 +37,7 @@ pub record ValidLive (live : Live) : Type 0 where
   pub time : live.machine.time ≤ last_time
   pub machine : IsProgramMachine live.machine
   pub count : length live.lines ≡ length (lines_for live.machine.units)
-  pub ports : AreSessionLines live.lines
+  pub ports : HavePortsApart live.lines
 
 -- the script that a DO has read is of bytes
 abbrev pub GivesBytes : Answer → Type 0
