@@ -203,9 +203,9 @@ module _ (tells : Bool) (first second : List ℕ) where
     counted = two.counted ∙ one.counted;
   }
 
-  pub first-refused : (fault : ListenFault) (old new : LineState) → ListensEach tells first (Err fault) old new
-      → ListensEach tells (first ++ second) (Err fault) old new
-  first-refused fault old new one =
+  pub first-refused : (why : ListenFault) (old new : LineState) → ListensEach tells first (Err why) old new
+      → ListensEach tells (first ++ second) (Err why) old new
+  first-refused why old new one =
       let cut = one.row in
       record {
         row = record {
@@ -223,10 +223,10 @@ module _ (tells : Bool) (first second : List ℕ) where
         counted = one.counted;
       }
 
-  pub second-refused : (fault : ListenFault) (old mid last new : LineState) → ListensEach tells first (Ok tt) old mid
-      → ListensEach tells second (Err fault) mid last → GivesUpEach first last new
-      → ListensEach tells (first ++ second) (Err fault) old new
-  second-refused fault old mid last new one two back =
+  pub second-refused : (why : ListenFault) (old mid last new : LineState) → ListensEach tells first (Ok tt) old mid
+      → ListensEach tells second (Err why) mid last → GivesUpEach first last new
+      → ListensEach tells (first ++ second) (Err why) old new
+  second-refused why old mid last new one two back =
       let cut = two.row in
       record {
         row = record {
@@ -240,7 +240,7 @@ module _ (tells : Bool) (first second : List ℕ) where
                 between,
                 (
                   tells-both first cut.before old.told mid.told between (one.row.told t) chain.0,
-                  subst (λ (x : Told). Listens between x (Err fault)) (sym back.told) chain.1,
+                  subst (λ (x : Told). Listens between x (Err why)) (sym back.told) chain.1,
                 ),
               );
           listens = back.listens
@@ -250,7 +250,7 @@ module _ (tells : Bool) (first second : List ℕ) where
         stands = back.stands ∙ two.stands ∙ one.stands;
         behind = back.behind ∙ two.behind ∙ one.behind;
         sent = back.sent ∙ two.sent ∙ one.sent;
-        counted = back.counted ∙ two.counted ∙ ap (listen_faults (Err fault)) one.counted;
+        counted = back.counted ∙ two.counted ∙ ap (listen_faults (Err why)) one.counted;
       }
 
 -- ---- ports of which one is refused are some
@@ -259,7 +259,7 @@ never-empty : (before behind : List ℕ) (port : ℕ) → before ++ (port ∷ be
 never-empty [] behind port none = absurd (cc)
 never-empty (p ∷ before) behind port none = absurd (cc)
 
-pub some-wanted : (tells : Bool) (ports : List ℕ) (fault : ListenFault) (old new : LineState)
-    → ListensEach tells ports (Err fault) old new → ports ≢ []
-some-wanted tells ports fault old new each = λ none.
+pub some-wanted : (tells : Bool) (ports : List ℕ) (why : ListenFault) (old new : LineState)
+    → ListensEach tells ports (Err why) old new → ports ≢ []
+some-wanted tells ports why old new each = λ none.
     never-empty each.row.before each.row.behind each.row.refused (sym each.row.parts ∙ none)

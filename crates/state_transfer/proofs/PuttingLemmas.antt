@@ -77,36 +77,31 @@ standard-distinct units (inr eleven) = subst (IsDistinct same_kind) (sym eleven)
 -- the units that are put are of the kinds that are there
 module _ (units : List UnitState) (us : List UnitPart) (count : is_unit_count (length us) ≡ true)
     (follow : Follow IsUnit next_number 0 us) (found : lack_multiplexer units (map unit_from us) ≡ false) where
-  said : List UnitState
-  said = map unit_from us
-
-  missing-told : (b : Bool) → lack_multiplexer said units ≡ b
-      → units_from us units ≡ said ++ (if b then first_multiplexer ∷ [] else [])
-  unfolding said
-  missing-told b same = ap (λ (x : Bool). said ++ (if x then first_multiplexer ∷ [] else [])) same
+  missing-told : (b : Bool) → lack_multiplexer (map unit_from us) units ≡ b
+      → units_from us units ≡ (map unit_from us) ++ (if b then first_multiplexer ∷ [] else [])
+  missing-told b same = ap (λ (x : Bool). (map unit_from us) ++ (if x then first_multiplexer ∷ [] else [])) same
 
   same-kinds : AreStandard units → (length us ≡ standard_kinds) ⊎ (length us ≡ most_kinds)
       → kinds_of (units_from us units) ≡ kinds_of units
-  unfolding said
   same-kinds (inl ten) (inl few) =
-      let lack : lack_multiplexer said units ≡ false =
-      ap (λ (b : Bool). b && not (has_multiplexer said)) (ten-lack units ten) in
-      ap kinds_of (missing-told false lack ∙ append-nil said) ∙ are-ten us few follow ∙ sym ten
+      let lack : lack_multiplexer (map unit_from us) units ≡ false =
+      ap (λ (b : Bool). b && not (has_multiplexer (map unit_from us))) (ten-lack units ten) in
+      ap kinds_of (missing-told false lack ∙ append-nil (map unit_from us)) ∙ are-ten us few follow ∙ sym ten
   same-kinds (inl ten) (inr many) =
-      let has = eleven-have said (are-eleven us many follow) in
-      let lack : lack_multiplexer units said ≡ true =
+      let has = eleven-have (map unit_from us) (are-eleven us many follow) in
+      let lack : lack_multiplexer units (map unit_from us) ≡ true =
       (λ i. has i && not (ten-lack units ten i)) in
       absurd (false≢true (sym found ∙ lack))
   same-kinds (inr eleven) (inl few) =
       let kinds = are-ten us few follow in
-      let lack : lack_multiplexer said units ≡ true =
-      (λ i. eleven-have units eleven i && not (ten-lack said kinds i)) in
-      ap kinds_of (missing-told true lack) ∙ ten-more said kinds ∙ sym eleven
+      let lack : lack_multiplexer (map unit_from us) units ≡ true =
+      (λ i. eleven-have units eleven i && not (ten-lack (map unit_from us) kinds i)) in
+      ap kinds_of (missing-told true lack) ∙ ten-more (map unit_from us) kinds ∙ sym eleven
   same-kinds (inr eleven) (inr many) =
       let kinds = are-eleven us many follow in
-      let lack : lack_multiplexer said units ≡ false =
-      (λ i. eleven-have units eleven i && not (eleven-have said kinds i)) in
-      ap kinds_of (missing-told false lack ∙ append-nil said) ∙ kinds ∙ sym eleven
+      let lack : lack_multiplexer (map unit_from us) units ≡ false =
+      (λ i. eleven-have units eleven i && not (eleven-have (map unit_from us) kinds i)) in
+      ap kinds_of (missing-told false lack ∙ append-nil (map unit_from us)) ∙ kinds ∙ sym eleven
 
   pub units-stand : AreStandard units → units_set units (units_from us units) ≡ units_from us units
   units-stand standard =

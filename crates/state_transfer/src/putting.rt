@@ -64,7 +64,6 @@ fn lacks_first<U: Unit>(machine: &Machine<U>, units: &[SavedUnit]) -> bool
 }
 
 // The registers of the multiplexer, as they are at first.
-#[tactic(auto, using(crate::proofs::PutBackMachineLemmas::first_fits))]
 fn put_first<U: Unit>(machine: &mut Machine<U>)
     ensures { machine.new ≡ record machine.old {
       units = with_registers_in multiplexer_kind first_multiplexer.registers machine.old.units;

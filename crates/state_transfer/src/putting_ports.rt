@@ -43,7 +43,7 @@ fn listen_row<L: Lines>(alloc: Global, row: Row, lines: &mut L) -> Result<(), Li
     if row.count == 0 {
         return Ok(());
     }
-    listen_up(alloc, u32::from(row.port), row.count, lines)
+    listen_up(alloc, row.port as u32, row.count, lines)
 }
 
 // Listens no longer on so many ports, from one on, the last one first.
@@ -75,7 +75,7 @@ fn listen_two<L: Lines>(
     match listen_row(alloc, second, lines) {
         Ok(()) => Ok(()),
         Err(fault) => {
-            give_up(u32::from(first.port), first.count, lines);
+            give_up(first.port as u32, first.count, lines);
             Err(fault)
         }
     }
@@ -100,7 +100,7 @@ fn listen_three<L: Lines>(
     match listen_two(alloc, second, third, lines) {
         Ok(()) => Ok(()),
         Err(fault) => {
-            give_up(u32::from(first.port), first.count, lines);
+            give_up(first.port as u32, first.count, lines);
             Err(fault)
         }
     }
@@ -163,6 +163,7 @@ fn has_line<U: Unit>(machine: &Machine<U>, number: u8) -> bool
 fn row_of(port: u16, count: u8, there: bool) -> Row
     ensures port { result.port ≡ port }
     ensures count { result.count ≡ how_many port count there }
+    ensures few { result.count ≤ count }
 {
     Row {
         port,

@@ -1,8 +1,9 @@
-use Rattle.std.proofs.Common.{◌≡◌, ◌≤◌, ◌==◌, ap, sym, subst, ◌∙◌, rules, false, List, [], length, map, arith}
+use Rattle.std.proofs.Common.{◌≡◌, ◌≤◌, ap, sym, subst, ◌∙◌, rules, false, IsTrue, List, [], length, map}
 use Rattle.nova_machine.specs.Machine.{MachineState}
 use Rattle.saved_session.specs.declared.saved.SavedUnit.{SavedUnit}
 use Rattle.saved_session.specs.declared.saved.SavedEvent.{SavedEvent}
 use Rattle.saved_session.specs.Parts.{state_in, unit_in}
+use Rattle.saved_session.specs.Ranges.{is_unit_count}
 use Rattle.saved_session.specs.Valid.{Follow, IsEvent}
 use Rattle.saved_session.specs.Order.{with_event}
 use Rattle.unit_trait.specs.Calls.{UnitState}
@@ -10,7 +11,7 @@ use Rattle.state_transfer.specs.PutBack.{unit_from, lack_multiplexer, units_from
 use Rattle.state_transfer.specs.Putting.{with_machine_of}
 use Rattle.state_transfer.specs.SavedValid.{AreStandard}
 use Rattle.state_transfer.proofs.PutBackMachineLemmas.{units-standard, as-many-units}
-use Rattle.state_transfer.proofs.PuttingLemmas.{of-more, seen-as}
+use Rattle.state_transfer.proofs.PuttingLemmas.{parts-long, of-more, seen-as}
 use Rattle.state_transfer.proofs.putting.put_machine.Goals as goal
 
 pub put_units-requires-clause-standard : goal.put_units-requires-clause-standard
@@ -20,6 +21,11 @@ put_units-requires-clause-standard g c =
     (c.put_memory.ensures c.args.saved.now.cpu.size_k (ap (λ (l : List _). length l) c.deref.ensures.value ∙ c.requires.valid.size))
     ∙ ap (λ (m : MachineState). m.units) c.put_cpu.ensures in
     subst AreStandard (sym units) c.requires.standard
+
+pub put_units-requires-clause-all : goal.put_units-requires-clause-all
+put_units-requires-clause-all g c =
+    subst (λ (l : List SavedUnit). IsTrue (is_unit_count (length l))) (sym c.deref-2.ensures.value)
+    (ap is_unit_count (sym (parts-long c.args.saved.now.units.items)) ∙ c.requires.valid.all)
 
 pub put_units-requires-clause-there : goal.put_units-requires-clause-there
 put_units-requires-clause-there g c =

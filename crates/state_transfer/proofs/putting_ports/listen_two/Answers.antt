@@ -1,5 +1,5 @@
-use Rattle.std.proofs.Common.{◌∙◌, List}
-use Rattle.std.specs.Prelude.{ℕ}
+use Rattle.std.proofs.Common.{◌∙◌, refl}
+use Rattle.std.proofs.lemmas.Bool.{false≢true}
 use Rattle.std.proofs.lemmas.Result.{err_from_is_err_and}
 use Rattle.terminal_ports.specs.Listening.{rising}
 use Rattle.state_transfer.proofs.PortLemmas.{both-listened, first-refused, second-refused}
@@ -13,7 +13,7 @@ returns-in_err-listen_row-clause-outside g c =
     (g.L.Lines.state c.listen_row.new.lines) c.in_err-listen_row.ensures.outside)
 
 pub returns-in_err-listen_row-clause-none : goal.returns-in_err-listen_row-clause-none
-returns-in_err-listen_row-clause-none g c = λ first second. absurd ((c.in_err-listen_row.ensures.none first).0)
+returns-in_err-listen_row-clause-none g c = λ first second. absurd (false≢true (c.in_err-listen_row.ensures.none first).0)
 
 pub returns-in-Ok-clause-outside : goal.returns-in-Ok-clause-outside
 returns-in-Ok-clause-outside g c =
@@ -24,7 +24,7 @@ returns-in-Ok-clause-outside g c =
 
 pub returns-in-Ok-clause-none : goal.returns-in-Ok-clause-none
 returns-in-Ok-clause-none g c = λ first second.
-    (tt, (c.in-Ok.ensures.none second).1 ∙ (c.in_ok-listen_row.ensures.none first).1)
+    (refl, (c.in-Ok.ensures.none second).1 ∙ (c.in_ok-listen_row.ensures.none first).1)
 
 pub returns-in-Err-clause-outside : goal.returns-in-Err-clause-outside
 returns-in-Err-clause-outside g c =
@@ -34,4 +34,4 @@ returns-in-Err-clause-outside g c =
     (g.L.Lines.state c.give_up.new.lines) c.in_ok-listen_row.ensures.outside c.in-Err.ensures.outside c.give_up.ensures
 
 pub returns-in-Err-clause-none : goal.returns-in-Err-clause-none
-returns-in-Err-clause-none g c = λ first second. absurd ((c.in-Err.ensures.none second).0)
+returns-in-Err-clause-none g c = λ first second. absurd (false≢true (c.in-Err.ensures.none second).0)

@@ -1,4 +1,5 @@
 use Rattle.std.proofs.Common.{◌≡◌, ℕ, List, ◌++◌, Ok, Err, ap, sym, subst, ◌∙◌}
+use Rattle.std.proofs.lemmas.Bool.{false≢true}
 use Rattle.saved_files.specs.declared.file_faults.RestoreFault.{RestoreFault}
 use Rattle.terminal_ports.specs.Listening.{rising, ListensEach}
 use Rattle.state_transfer.specs.Listening.{IsHeardOn, IsPortFault}
@@ -10,11 +11,11 @@ use Rattle.state_transfer.proofs.putting_ports.put_ports.Goals as goal
 -- the ports of the three rows are those that are wanted
 pub returns-in-Ok-clause-ok : goal.returns-in-Ok-clause-ok
 returns-in-Ok-clause-ok g c =
-    machine-given c.args.ports c.args.machine.now c.put_row.new.machine c.put_row-2.new.machine c.put_console.new.machine
+    machine-given c.args.ports c.args.machine.now c.put_row.new.machine c.put_row-in-Ok.new.machine c.put_console.new.machine
     c.row_of-terminal.result.count c.row_of-multiplexer.result.count c.row_of-console.result.count
     (c.row_of-terminal.ensures.count ∙ ap (how_many c.args.ports.tti1 1) c.has_line.ensures)
     (c.row_of-multiplexer.ensures.count ∙ ap (how_many c.args.ports.qty 64) c.has_line-2.ensures)
-    c.row_of-console.ensures.count c.put_row.ensures c.put_row-2.ensures c.put_console.ensures
+    c.row_of-console.ensures.count c.put_row.ensures c.put_row-in-Ok.ensures c.put_console.ensures
 
 pub returns-in-Ok-clause-outside : goal.returns-in-Ok-clause-outside
 returns-in-Ok-clause-outside g c =
@@ -37,7 +38,7 @@ returns-in-Ok-clause-none g c = λ none.
     (c.row_of-terminal.ensures.count ∙ ap (how_many c.args.ports.tti1 1) c.has_line.ensures)
     (c.row_of-multiplexer.ensures.count ∙ ap (how_many c.args.ports.qty 64) c.has_line-2.ensures)
     c.row_of-console.ensures.count) ∙ none) in
-    c.in-Ok.ensures.none zero_all.0 zero_all.1.0 zero_all.1.1
+    c.in-Ok.ensures.none zero_all.0 zero_all.1 zero_all.2
 
 pub returns-in-Err-clause-none : goal.returns-in-Err-clause-none
 returns-in-Err-clause-none g c = λ none.
@@ -48,7 +49,7 @@ returns-in-Err-clause-none g c = λ none.
     (c.row_of-terminal.ensures.count ∙ ap (how_many c.args.ports.tti1 1) c.has_line.ensures)
     (c.row_of-multiplexer.ensures.count ∙ ap (how_many c.args.ports.qty 64) c.has_line-2.ensures)
     c.row_of-console.ensures.count) ∙ none) in
-    absurd ((c.in-Err.ensures.none zero_all.0 zero_all.1.0 zero_all.1.1).0)
+    absurd (false≢true (c.in-Err.ensures.none zero_all.0 zero_all.1 zero_all.2).0)
 
 pub returns-in-Err-clause-wanted : goal.returns-in-Err-clause-wanted
 returns-in-Err-clause-wanted g c =

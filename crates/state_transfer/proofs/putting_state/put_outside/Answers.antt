@@ -3,6 +3,7 @@ use Rattle.std.proofs.lemmas.Result.{err_from_is_err_and}
 use Rattle.std.specs.List.{AllByRecursion}
 use Rattle.unit_files.specs.Attachments.{held_at}
 use Rattle.unit_files.specs.Buffer.{AttachedFiles, nothing_attached}
+use Rattle.unit_files.specs.Causes.{AreFrom}
 use Rattle.unit_files.specs.Open.{Around}
 use Rattle.nova_machine.specs.Machine.{MachineState, attached_files, with_attached_files}
 use Rattle.saved_session.specs.declared.saved.SavedFile.{SavedFile}
@@ -97,6 +98,13 @@ pub put_ports-requires : goal.put_ports-requires
 put_ports-requires g c = record {
   range = multiplexer-low c.requires.range.0 c.args.saved.now.ports.tti1 c.args.saved.now.ports.qty c.requires.range.1.qty;
 }
+
+pub returns-in-Ok-clause-from : goal.returns-in-Ok-clause-from
+returns-in-Ok-clause-from g c = λ unit h there.
+    let state = g.F.Files.state in
+    let from = subst (λ (a : AttachedFiles). AreFrom a.slots c.attach_all.new.attached.slots (state c.args.files.now)
+    (state c.attach_all.new.files)) c.attached_mut.ensures.value c.in_ok-attach_all.ensures.from in
+    from unit h (subst (λ (m : MachineState). held_at m.slots unit ≡ Some h) c.in-Ok.ensures.ok there)
 
 pub returns-in-Ok-clause-lines : goal.returns-in-Ok-clause-lines
 returns-in-Ok-clause-lines g c = (c.in-Ok.ensures.outside, λ none. ap g.L.Lines.state (c.in-Ok.ensures.none none).1)

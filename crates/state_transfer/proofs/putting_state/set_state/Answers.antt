@@ -9,6 +9,7 @@ use Rattle.saved_session.specs.Ranges.{has_multiplexer}
 use Rattle.state_transfer.specs.PutBack.{misses_unit, machine_from}
 use Rattle.state_transfer.specs.Putting.{SaysMissing}
 use Rattle.saved_files.specs.Putting.{with_all}
+use Rattle.state_transfer.specs.SavedValid.{AreStandard}
 use Rattle.state_transfer.proofs.PuttingLemmas.{is-put-back}
 use Rattle.state_transfer.proofs.putting_state.set_state.Goals as goal
 
@@ -35,3 +36,17 @@ pub put_machine-requires-clause-there : goal.put_machine-requires-clause-there
 put_machine-requires-clause-there g c =
     ap (λ (m : MachineState). misses_unit (state_in c.args.saved.now).machine m.units) c.in_ok-put_outside.ensures.machine
     ∙ sym c.lacks_unit.ensures ∙ c.if-lacks_unit.false
+
+pub put_machine-requires-clause-standard : goal.put_machine-requires-clause-standard
+put_machine-requires-clause-standard g c =
+    subst AreStandard (sym (ap (λ (m : MachineState). m.units) c.in_ok-put_outside.ensures.machine)) c.requires.standard
+
+pub returns-in_err-put_outside-clause-standard : goal.returns-in_err-put_outside-clause-standard
+returns-in_err-put_outside-clause-standard g c =
+    subst (λ (m : MachineState). AreStandard m.units) (sym c.in_err-put_outside.ensures.refused) c.requires.standard
+
+pub returns-in_err-put_outside-clause-missing : goal.returns-in_err-put_outside-clause-missing
+returns-in_err-put_outside-clause-missing g c =
+    let p = err_from_is_err_and c.from_residual.result c.from_residual.ensures.1 in
+    rw (p.1, p.2) (subst (λ (b : Bool). SaysMissing (Err c.in_err-put_outside.field-0.0) b)
+    (sym (sym c.lacks_unit.ensures ∙ c.if-lacks_unit.false)) c.in_err-put_outside.ensures.found)
