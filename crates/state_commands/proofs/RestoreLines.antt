@@ -32,7 +32,8 @@ use Rattle.command_session.specs.LinesLeft.{HasPort, AreListened, LinesLeft, Unl
 use Rattle.command_session.specs.Live.{Live}
 use Rattle.state_commands.specs.StateEffects.{refusal_fault, refusal_used, unless_failed, listening_each, restored_by, listened_back}
 use Rattle.command_session.proofs.KeptLemmas.{lines-kept}
-use Rattle.command_session.proofs.PortLemmas.{later-raised, seen-still}
+use Rattle.fault_counts.specs.Faults.{raised}
+use Rattle.command_session.proofs.PortLemmas.{seen-still}
 use Rattle.state_commands.proofs.PortRows.{AreGiven, HasAt, NoneHas, all-given, given-length, every-given, given-there, apart-given, closed-none, given-listened, listened-before, given-up-before, ports-seen}
 use Rattle.state_commands.proofs.RestoreLemmas.{ends, missing-did, back-did, failed-did, unread-want}
 use Rattle.command_session.proofs.WholeLemmas.{own_both}
@@ -89,7 +90,6 @@ none-connected conn (line ∷ lines) free =
     λ has. elim has [ inl own ↦ unlinked line.connection conn free.0 own | inr later ↦ none-connected conn lines free.1 later ]
 
 no-port : (port : ℕ) (lines : List (LineOf ℕ)) → NoneHas port lines → ¬ HasPort port lines
-unfolding NoneHas
 no-port port [] none = λ has. has
 no-port port (line ∷ lines) none = λ has. elim has [ inl own ↦ none.0 own | inr later ↦ no-port port lines none.1 later ]
 
@@ -174,7 +174,7 @@ done-left tells listed p before old new are some closed each = record {
     there : AllByRecursion (HasAt after) given
     there = given-there (length before) given before refl ones
 
-    all-free : (gs : List (ℕ × ℕ)) → AllByRecursion (λ (g : ℕ × ℕ). None ≡ None) gs
+    all-free : (gs : List (ℕ × ℕ)) → AllByRecursion (λ (g : ℕ × ℕ). (unconnected {P = ℕ} (Some g.1)).connection ≡ None) gs
     all-free [] = tt
     all-free (g ∷ gs) = (refl, all-free gs)
 
@@ -189,6 +189,9 @@ restore-done tells listed p before after old new are some closed left is =
 
 same-left : (tells : Bool) (before : List (LineOf ℕ)) (old new : LineState) → new ≡ old → LinesLeft tells old before new before
 same-left tells before old new same = subst (λ (s : LineState). LinesLeft tells old before s before) (sym same) (lines-kept tells old before before refl)
+
+later-raised : (count : ℕ) → count ≤ raised count
+later-raised count = omega arith
 
 -- a wanted port was refused
 refused-left : (tells : Bool) (ports : List ℕ) (before : List (LineOf ℕ)) (fault : ListenFault) (old new : LineState) → AreClosed before → ListensEach tells ports (Err fault) old new
