@@ -60,16 +60,14 @@ use Rattle.command_session.specs.Doing.{Did, IsRestoreAnswer}
 -- ---- lines to which nobody is connected
 
 -- nobody is connected to any of these lines
-AreFree : List (LineOf ℕ) → Type 0
+abbrev AreFree : List (LineOf ℕ) → Type 0
 AreFree lines = AllByRecursion (λ (line : LineOf ℕ). line.connection ≡ None) lines
 
 closed-free : (lines : List (LineOf ℕ)) → AreClosed lines → AreFree lines
-unfolding AreFree
 closed-free [] closed = tt
 closed-free (line ∷ lines) closed = (ap (λ (l : LineOf ℕ). l.connection) closed.0, closed-free lines closed.1)
 
 free-at : (place : ℕ) (lines : List (LineOf ℕ)) (line : LineOf ℕ) → slice_get lines place ≡ Some line → AreFree lines → line.connection ≡ None
-unfolding AreFree
 free-at place [] line at free = absurd (cc)
 free-at zero (l ∷ lines) line at free = ap (λ (x : LineOf ℕ). x.connection) (sym (same_Some l line at)) ∙ free.0
 free-at (suc place) (l ∷ lines) line at free = free-at place lines line at free.1
@@ -84,7 +82,6 @@ free-apart s lines free = record {
 }
 
 none-connected : (conn : ℕ) (lines : List (LineOf ℕ)) → AreFree lines → ¬ HasConnection conn lines
-unfolding AreFree
 none-connected conn [] free = λ has. has
 none-connected conn (line ∷ lines) free =
     λ has. elim has [ inl own ↦ unlinked line.connection conn free.0 own | inr later ↦ none-connected conn lines free.1 later ]
