@@ -98,11 +98,15 @@ pub record IsSavable (files : List NamedBytes) (s : Live) : Type 0 where
   pub fits : Fits (saved_among files s)
   pub widths : HasWidths (saved_among files s)
 
+-- the machines of two sessions have units of the same kinds
+abbrev pub HaveSameKinds : Live → Live → Type 0
+HaveSameKinds present s = kinds_of present.machine.units ≡ kinds_of s.machine.units
+
 -- a session can get another one put back: its files are those of that session, its machine has units of the same kinds, and
 -- as many lines
 pub record IsLike (present s : Live) : Type 0 where
   pub files : present.files ≡ s.files
-  pub kinds : kinds_of present.machine.units ≡ kinds_of s.machine.units
+  pub kinds : HaveSameKinds present s
   pub many : length present.lines ≡ length s.lines
 
 -- a RESTORE of that file is done, and has used so many notes

@@ -329,12 +329,12 @@ given-other {P} (g ∷ given) place lines none =
     given-other given place (changed_at g.0 (λ (line : LineOf P). unconnected (Some g.1)) lines) none.1 ∙ changed-other g.0 place g.1 lines none.0
 
 -- the line at that place has that port
-pub HasAt : {P : Type 0} → List (LineOf P) → ℕ × ℕ → Type 0
+abbrev pub HasAt : {P : Type 0} → List (LineOf P) → ℕ × ℕ → Type 0
 HasAt lines g = slice_get lines g.0 ≡ Some (unconnected (Some g.1))
 
 pub given-there : {P : Type 0} (many : ℕ) (given : List (ℕ × ℕ)) (lines : List (LineOf P)) → many ≡ length lines → AreGiven many given
     → AllByRecursion (HasAt (with_ports given lines)) given
-unfolding AreGiven HasAt
+unfolding AreGiven
 given-there many [] lines same are = tt
 given-there {P} many (g ∷ given) lines same are =
     let after : List (LineOf P) = changed_at g.0 (λ (line : LineOf P). unconnected (Some g.1)) lines in
@@ -356,12 +356,11 @@ other-changed {P} (Some own) place port lines other none =
     every-changed (HasOther {P = P} (Some own)) place port lines (λ same. other (sym same)) none
 
 -- no line has that port
-pub NoneHas : {P : Type 0} → ℕ → List (LineOf P) → Type 0
+abbrev pub NoneHas : {P : Type 0} → ℕ → List (LineOf P) → Type 0
 NoneHas {P} port lines = AllByRecursion (λ (line : LineOf P). line.port ≢ Some port) lines
 
 apart-changed : {P : Type 0} (place port : ℕ) (lines : List (LineOf P)) → port ≢ 0 → NoneHas port lines → HavePortsApart lines
     → HavePortsApart (changed_at place (λ (line : LineOf P). unconnected (Some port)) lines)
-unfolding NoneHas
 apart-changed place port [] some none apart = tt
 apart-changed zero port (line ∷ lines) some none apart = (λ is. some (same_Some port 0 is), (none.1, apart.1.1))
 apart-changed (suc place) port (line ∷ lines) some none apart =
@@ -369,7 +368,7 @@ apart-changed (suc place) port (line ∷ lines) some none apart =
 
 pub apart-given : {P : Type 0} (many : ℕ) (given : List (ℕ × ℕ)) (lines : List (LineOf P)) → AreGiven many given → AllByRecursion (λ (g : ℕ × ℕ). NoneHas g.1 lines) given
     → HavePortsApart lines → HavePortsApart (with_ports given lines)
-unfolding AreGiven NoneHas NoneIs
+unfolding AreGiven NoneIs
 apart-given many [] lines are none apart = apart
 apart-given {P} many (g ∷ given) lines are none apart =
     apart-given many given (changed_at g.0 (λ (line : LineOf P). unconnected (Some g.1)) lines) are.4 (later given are.3 none.1) (apart-changed g.0 g.1 lines are.1 none.0 apart)
@@ -396,7 +395,6 @@ closed-apart (line ∷ lines) closed =
     free (l ∷ ls) = (tt, free ls)
 
 pub closed-none : (port : ℕ) (lines : List (LineOf ℕ)) → AreClosed lines → NoneHas port lines
-unfolding NoneHas
 closed-none port [] closed = tt
 closed-none port (line ∷ lines) closed =
     (λ is. true≢false (ap is_some (sym is ∙ ap (λ (l : LineOf ℕ). l.port) closed.0)), closed-none port lines closed.1)

@@ -32,7 +32,8 @@ use Rattle.command_session.specs.LinesLeft.{HasPort, AreListened, LinesLeft, Unl
 use Rattle.command_session.specs.Live.{Live}
 use Rattle.state_commands.specs.StateEffects.{refusal_fault, refusal_used, unless_failed, listening_each, restored_by, listened_back}
 use Rattle.command_session.proofs.KeptLemmas.{lines-kept}
-use Rattle.command_session.proofs.PortLemmas.{later-raised, seen-still}
+use Rattle.fault_counts.specs.Faults.{raised}
+use Rattle.command_session.proofs.PortLemmas.{seen-still}
 use Rattle.state_commands.proofs.PortRows.{AreGiven, HasAt, NoneHas, all-given, given-length, every-given, given-there, apart-given, closed-none, given-listened, listened-before, given-up-before, ports-seen}
 use Rattle.state_commands.proofs.RestoreLemmas.{ends, missing-did, back-did, failed-did, unread-want}
 use Rattle.command_session.proofs.WholeLemmas.{own_both}
@@ -59,16 +60,14 @@ use Rattle.command_session.specs.Doing.{Did, IsRestoreAnswer}
 -- ---- lines to which nobody is connected
 
 -- nobody is connected to any of these lines
-AreFree : List (LineOf ℕ) → Type 0
+abbrev AreFree : List (LineOf ℕ) → Type 0
 AreFree lines = AllByRecursion (λ (line : LineOf ℕ). line.connection ≡ None) lines
 
 closed-free : (lines : List (LineOf ℕ)) → AreClosed lines → AreFree lines
-unfolding AreFree
 closed-free [] closed = tt
 closed-free (line ∷ lines) closed = (ap (λ (l : LineOf ℕ). l.connection) closed.0, closed-free lines closed.1)
 
 free-at : (place : ℕ) (lines : List (LineOf ℕ)) (line : LineOf ℕ) → slice_get lines place ≡ Some line → AreFree lines → line.connection ≡ None
-unfolding AreFree
 free-at place [] line at free = absurd (cc)
 free-at zero (l ∷ lines) line at free = ap (λ (x : LineOf ℕ). x.connection) (sym (same_Some l line at)) ∙ free.0
 free-at (suc place) (l ∷ lines) line at free = free-at place lines line at free.1
@@ -83,13 +82,11 @@ free-apart s lines free = record {
 }
 
 none-connected : (conn : ℕ) (lines : List (LineOf ℕ)) → AreFree lines → ¬ HasConnection conn lines
-unfolding AreFree
 none-connected conn [] free = λ has. has
 none-connected conn (line ∷ lines) free =
     λ has. elim has [ inl own ↦ unlinked line.connection conn free.0 own | inr later ↦ none-connected conn lines free.1 later ]
 
 no-port : (port : ℕ) (lines : List (LineOf ℕ)) → NoneHas port lines → ¬ HasPort port lines
-unfolding NoneHas
 no-port port [] none = λ has. has
 no-port port (line ∷ lines) none = λ has. elim has [ inl own ↦ none.0 own | inr later ↦ no-port port lines none.1 later ]
 
@@ -174,7 +171,7 @@ done-left tells listed p before old new are some closed each = record {
     there : AllByRecursion (HasAt after) given
     there = given-there (length before) given before refl ones
 
-    all-free : (gs : List (ℕ × ℕ)) → AllByRecursion (λ (g : ℕ × ℕ). None ≡ None) gs
+    all-free : (gs : List (ℕ × ℕ)) → AllByRecursion (λ (g : ℕ × ℕ). (unconnected {P = ℕ} (Some g.1)).connection ≡ None) gs
     all-free [] = tt
     all-free (g ∷ gs) = (refl, all-free gs)
 
@@ -189,6 +186,9 @@ restore-done tells listed p before after old new are some closed left is =
 
 same-left : (tells : Bool) (before : List (LineOf ℕ)) (old new : LineState) → new ≡ old → LinesLeft tells old before new before
 same-left tells before old new same = subst (λ (s : LineState). LinesLeft tells old before s before) (sym same) (lines-kept tells old before before refl)
+
+later-raised : (count : ℕ) → count ≤ raised count
+later-raised count = omega arith
 
 -- a wanted port was refused
 refused-left : (tells : Bool) (ports : List ℕ) (before : List (LineOf ℕ)) (fault : ListenFault) (old new : LineState) → AreClosed before → ListensEach tells ports (Err fault) old new

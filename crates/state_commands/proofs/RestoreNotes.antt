@@ -270,15 +270,15 @@ restore-named stamp tells (restore.Changed unit) old new is = refl
 restore-named stamp tells restore.Port old new is = refl
 restore-named stamp tells restore.OutOfMemory old new is = refl
 
--- each such refusal may have given files back
-restore-gives : (P : Bool → Type 0) (fault : RestoreFault) → P true → P (gives_back (Err (restore_fault fault)))
-restore-gives P (restore.Failed f) all = all
-restore-gives P restore.MissingUnit all = all
-restore-gives P (restore.NoFile unit) all = all
-restore-gives P (restore.TooLong unit) all = all
-restore-gives P (restore.Changed unit) all = all
-restore-gives P restore.Port all = all
-restore-gives P restore.OutOfMemory all = all
+-- each such refusal may have given files back, but that of a missing unit
+restore-gives : (P : Bool → Type 0) (fault : RestoreFault) → (fault ≡ restore.MissingUnit → P false) → P true → P (gives_back (Err (restore_fault fault)))
+restore-gives P (restore.Failed f) none all = all
+restore-gives P restore.MissingUnit none all = none refl
+restore-gives P (restore.NoFile unit) none all = all
+restore-gives P (restore.TooLong unit) none all = all
+restore-gives P (restore.Changed unit) none all = all
+restore-gives P restore.Port none all = all
+restore-gives P restore.OutOfMemory none all = all
 
 few-more : (stamp : Stamp) (fault : RestoreFault) → length (restore_notes stamp fault) ≤ 1
 few-more stamp (restore.Failed f) = omega arith
@@ -350,6 +350,7 @@ module _ (number time now : ℕ) (tells : Bool) (w : Whole) (v : Vec ℕ) (is : 
     exact =
         subst (λ (a : Answer). AreExact (gives_back a) (read_notes subject.State stamp_here w ++ restore_notes stamp_here fault) old new) (sym answered)
         (restore-gives (λ (b : Bool). AreExact b (read_notes subject.State stamp_here w ++ restore_notes stamp_here fault) old new) fault
+        (exact-missing fault cause)
         (exact-both true (read_notes subject.State stamp_here w) (restore_notes stamp_here fault) old mid new (exact-kept true (read_notes subject.State stamp_here w) old mid first-exact)
         (restore-exact stamp_here tells fault mid new only unused unused' cause once)));
     openings =
@@ -367,6 +368,19 @@ module _ (number time now : ℕ) (tells : Bool) (w : Whole) (v : Vec ℕ) (is : 
         (more-cause stamp_here tells fault (read_notes subject.State stamp_here w) old mid new (read-closings stamp_here w v is shape) first-counted.openings.0 cause);
   }
     where
+      -- where a unit is missing, no file was asked for
+      exact-missing : (why : RestoreFault) → SessionCause tells (Err why) mid new → why ≡ restore.MissingUnit
+          → AreExact false (read_notes subject.State stamp_here w ++ restore_notes stamp_here why) old new
+      exact-missing restore.MissingUnit same is =
+          exact-both false (read_notes subject.State stamp_here w) [] old mid new first-exact
+          (exact-when false [] mid new (λ file. ap (λ (s : FileState). s.faults file) same) only.ids)
+      exact-missing (restore.Failed f) same is = absurd (cc)
+      exact-missing (restore.NoFile unit) same is = absurd (cc)
+      exact-missing (restore.TooLong unit) same is = absurd (cc)
+      exact-missing (restore.Changed unit) same is = absurd (cc)
+      exact-missing restore.Port same is = absurd (cc)
+      exact-missing restore.OutOfMemory same is = absurd (cc)
+
       few-read : (failed closing : Option FailedCall) → length (both_notes subject.State stamp_here 0 failed closing) ≤ 2
       few-read None None = omega arith
       few-read None (Some c) = omega arith

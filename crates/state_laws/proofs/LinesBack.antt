@@ -12,6 +12,7 @@ use Rattle.nova_machine.specs.Machine.{has_terminal, has_multiplexer, line_count
 use Rattle.state_transfer.specs.Session.{port_number, port_of, saved_ports}
 use Rattle.state_transfer.specs.Ports.{row_from, how_many, is_line, multiplexer_lines, assigned, with_ports}
 use Rattle.state_transfer.specs.PutBack.{IsIdleLine, lines_from}
+use Rattle.state_transfer.proofs.RowLemmas.{with-both}
 
 -- ---- how many lines a machine has
 
@@ -29,10 +30,6 @@ line-counts units = by (has_multiplexer units) (has_terminal units)
     by false false = inl refl
 
 -- ---- ports given one behind another
-
-pub with-append : {P : Type 0} (first second : List (ℕ × ℕ)) (lines : List (LineOf P)) → with_ports (first ++ second) lines ≡ with_ports second (with_ports first lines)
-with-append [] second lines = refl
-with-append {P} (g ∷ first) second lines = with-append first second (changed_at g.0 (λ (line : LineOf P). unconnected (Some g.1)) lines)
 
 -- a row that does not begin at the first line leaves that as it is
 pub row-behind : {P : Type 0} (count place port : ℕ) (line : LineOf P) (lines : List (LineOf P))
@@ -132,7 +129,7 @@ module _ (tti1 qty console : ℕ) (present : List (LineOf Peer)) where
       let terminal = row_from (how_many tti1 1 (is_line 0 present)) 1 tti1 in
       let many = row_from (how_many qty multiplexer_lines (is_line multiplexer_lines present)) 2 qty in
       let one = row_from (how_many console 1 true) 0 console in
-      with-append terminal (many ++ one) lines ∙ with-append many one (with_ports terminal lines)
+      with-both terminal (many ++ one) lines ∙ with-both many one (with_ports terminal lines)
       ∙ (λ i. with_ports one (with_ports (row_from (how_many qty multiplexer_lines (is_last i)) 2 qty)
       (with_ports (row_from (how_many tti1 1 (is_first i)) 1 tti1) lines)))
 

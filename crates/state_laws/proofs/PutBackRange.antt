@@ -11,28 +11,27 @@ use Rattle.unit_trait.specs.declared.kind.UnitName.{UnitName}
 use Rattle.unit_trait.specs.declared.kind.Kind.TheVariants.{Qty}
 use Rattle.unit_trait.specs.Kinds.{all_kinds, code_of}
 use Rattle.unit_trait.specs.Calls.{UnitState}
-use Rattle.unit_list.specs.Bus.{AllFit, kinds_of}
+use Rattle.unit_list.specs.Bus.{kinds_of}
 use Rattle.unit_list.proofs.Calls.{there-kinds}
-use Rattle.unit_list.proofs.Resets.{begun-fits}
 use Rattle.event_queue.specs.EventList.{Event}
 use Rattle.event_queue.specs.DueTimes.{scheduled}
 use Rattle.unit_files.specs.Attachments.{Attachment, attachments_of, attachment_at, file_place, file_units}
 use Rattle.unit_files.specs.Buffer.{disk_unit}
 use Rattle.nova_memory.specs.Memory.{IsMemory, IsSize}
-use Rattle.nova_machine.specs.Core.{IsAmong, AreListed}
+use Rattle.nova_machine.specs.Core.{AreListed}
 use Rattle.nova_machine.specs.Machine.{has_multiplexer}
 use Rattle.nova_machine.specs.Valid.{AreBytes, IsByteName, HasByteName, ValidMachine, CopyIsFile}
 use Rattle.saved_session.specs.declared.saved.SavedEvent.{SavedEvent}
-use Rattle.saved_session.specs.Parts.{UnitPart, FilePart, MachinePart}
+use Rattle.saved_session.specs.Parts.{FilePart, MachinePart}
 use Rattle.saved_session.specs.Ranges.{standard_kinds, is_size, kind_at, FilePlace, is_name_length}
-use Rattle.saved_session.specs.Valid.{AreWords, Follow, IsUnit, IsEvent, IsMachine, IsFile}
-use Rattle.saved_session.specs.Order.{next_number, with_event, behind_file}
+use Rattle.saved_session.specs.Valid.{AreWords, Follow, IsEvent, IsMachine, IsFile}
+use Rattle.saved_session.specs.Order.{with_event, behind_file}
 use Rattle.saved_files.specs.Putting.{unit_of, attachment_of, with_file, with_all, copy_of}
 use Rattle.state_transfer.specs.Processor.{is_set}
-use Rattle.state_transfer.specs.PutBack.{memory_from, unit_from, lack_multiplexer, first_multiplexer, missing_from, units_from, event_from, held_from, machine_from}
+use Rattle.state_transfer.specs.PutBack.{memory_from, lack_multiplexer, first_multiplexer, missing_from, units_from, event_from, held_from, machine_from}
 use Rattle.state_transfer.specs.SavedValid.{AreStandard}
 use Rattle.nova_machine.proofs.Each.{every-set}
-use Rattle.state_transfer.proofs.PutBackMachineLemmas.{units-fit, events-sound}
+use Rattle.state_transfer.proofs.PutBackMachineLemmas.{count-low, ten-more, units-standard, as-many-units, all-units-fit, among-standard, position-low, events-sound}
 
 -- ---- memory
 
@@ -109,23 +108,6 @@ slots-back (Some a ∷ attached) = ap (λ (l : List (Option Attachment)). Some a
 
 -- ---- the units
 
--- the multiplexer as it is at first is in range
-missing-fit : (units present : List UnitState) → AllFit (missing_from units present)
-unfolding first_multiplexer
-missing-fit units present = by (lack_multiplexer units present)
-  where
-    by : (b : Bool) → AllFit (if b then first_multiplexer ∷ [] else [])
-    by true = begun-fits (Qty ∷ [])
-    by false = tt
-
-both-fit : (units others : List UnitState) → AllFit units → AllFit others → AllFit (units ++ others)
-both-fit [] others first second = second
-both-fit (u ∷ units) others first second = (first.0, both-fit units others first.1 second)
-
-kinds-both : (units others : List UnitState) → kinds_of (units ++ others) ≡ kinds_of units ++ kinds_of others
-kinds-both [] others = refl
-kinds-both (u ∷ units) others = ap (λ (l : List Kind). u.kind ∷ l) (kinds-both units others)
-
 -- one unit of each of these kinds
 abbrev of_kinds : List Kind → List UnitState
 of_kinds kinds = map (λ (kind : Kind). record { kind = kind; registers = [] }) kinds
@@ -146,27 +128,15 @@ whole-put : (units : List UnitState) (there : Bool) → kinds_of units ≡ all_k
 whole-put units true all = ap (λ (l : List UnitState). kinds_of l) (append-nil units) ∙ all
 whole-put units false all = ap (λ (l : List UnitState). kinds_of l) (append-nil units) ∙ all
 
--- units that were standard ones are still so with what was missing
-pub all-standard : (units present : List UnitState) → AreStandard units → AreStandard (units ++ missing_from units present)
-unfolding first_multiplexer
-all-standard units present (inl ten) = by (lack_multiplexer units present)
-  where
-    by : (b : Bool) → AreStandard (units ++ (if b then first_multiplexer ∷ [] else []))
-    by true = inr (kinds-both units (first_multiplexer ∷ []) ∙ ap (λ (l : List Kind). l ++ Qty ∷ []) ten)
-    by false = inl (ap (λ (l : List UnitState). kinds_of l) (append-nil units) ∙ ten)
-all-standard units present (inr all) =
-    inr (ap (λ (b : Bool). kinds_of (units ++ missing_by (has_multiplexer present) b)) (has-one units all) ∙ whole-put units (has_multiplexer present) all)
-
--- .. and of the kinds of the present ones, where no unit is missing among these
+-- the units have the kinds of the present ones, where no unit is missing among these
 pub kinds-put : (units present : List UnitState) → AreStandard units → AreStandard present → lack_multiplexer present units ≡ false
     → kinds_of (units ++ missing_from units present) ≡ kinds_of present
-unfolding first_multiplexer
 kinds-put units present (inl ten) (inl same) found =
     ap (λ (b : Bool). kinds_of (units ++ missing_by b (has_multiplexer units))) (has-none present same)
     ∙ ap (λ (l : List UnitState). kinds_of l) (append-nil units) ∙ ten ∙ sym same
 kinds-put units present (inl ten) (inr all) found =
     (λ i. kinds_of (units ++ missing_by (has-one present all i) (has-none units ten i)))
-    ∙ kinds-both units (first_multiplexer ∷ []) ∙ ap (λ (l : List Kind). l ++ Qty ∷ []) ten ∙ sym all
+    ∙ ten-more units ten ∙ sym all
 kinds-put units present (inr all) (inl ten) found =
     absurd (false≢true (sym found ∙ (λ i. has-one units all i && not (has-none present ten i))))
 kinds-put units present (inr all) (inr same) found =
@@ -174,25 +144,14 @@ kinds-put units present (inr all) (inr same) found =
 
 -- ---- the events
 
-among-both : (kind : Kind) (units others : List UnitState) → IsAmong kind (kinds_of units) → IsAmong kind (kinds_of (units ++ others))
-among-both kind [] others among = absurd among
-among-both kind (u ∷ units) others (inl own) = inl own
-among-both kind (u ∷ units) others (inr later) = inr (among-both kind units others later)
-
--- the kind at a position is one of those that have a unit at theirs
-among-at : (i p : ℕ) (us : List UnitPart) → Follow IsUnit next_number i us → p < length us → IsAmong (kind_at (i + p)) (kinds_of (map unit_from us))
-among-at i p [] are below = absurd (omega (arith, below))
-among-at i zero (u ∷ us) are below = inl (ap kind_at (are.0.position ∙ omega arith))
-among-at i (suc p) (u ∷ us) are below =
-    inr (subst (λ (n : ℕ). IsAmong (kind_at n) (kinds_of (map unit_from us))) (omega arith) (among-at (i + 1) p us are.1 (omega (arith, below))))
-
 events-listed : (m : MachinePart) (present : List UnitState) → IsMachine m → (front es : List SavedEvent) → Follow (IsEvent (length m.units)) with_event front es
     → AreListed (kinds_of (units_from m.units present)) (map event_from es)
 events-listed m present is front [] are = tt
 events-listed m present is front (e ∷ es) are = (
-  among-both (kind_at e.position) (map unit_from m.units) (missing_from (map unit_from m.units) present)
-      (subst (λ (n : ℕ). IsAmong (kind_at n) (kinds_of (map unit_from m.units))) (omega arith)
-      (among-at 0 e.position m.units is.units (ltb-true e.position (length m.units) are.0.position))),
+  among-standard (units_from m.units present) e.position (units-standard m present is)
+      (let below = position-low (length m.units) e.position are.0.position in
+      let more = as-many-units m.units present in
+      omega (arith, below, more)),
   events-listed m present is (front ++ e ∷ []) es are.1,
 )
 
@@ -236,9 +195,8 @@ machine-in-range m present attached files is places names bytes = record {
   mask = is.cpu.mask;
   switches = is.cpu.sr;
   core = record {
-    registers = both-fit (map unit_from m.units) (missing_from (map unit_from m.units) present) (units-fit 0 m.units is.units)
-        (missing-fit (map unit_from m.units) present);
-    sound = events-sound (length m.units) [] m.agenda is.agenda;
+    registers = all-units-fit m.units present is.units;
+    sound = events-sound (length m.units) [] m.agenda (count-low (length m.units) is.all) is.agenda;
     listed = events-listed m present is [] m.agenda is.agenda;
     times = not-before m.cpu.time (map event_from m.agenda);
   };

@@ -19,12 +19,12 @@ use Rattle.saved_session.specs.Ranges.{has_multiplexer, is_among, is_multiplexer
 use Rattle.saved_session.specs.Valid.{ArePorts, Valid}
 use Rattle.saved_files.specs.Putting.{with_all, copy_of}
 use Rattle.state_transfer.specs.Ports.{row_from, how_many, is_line, multiplexer_lines, assigned, with_ports}
-use Rattle.state_transfer.specs.PutBack.{unit_from, machine_from, lines_from, put_back}
+use Rattle.state_transfer.specs.PutBack.{machine_from, lines_from, put_back}
 use Rattle.state_transfer.specs.SavedValid.{AreStandard}
 use Rattle.state_laws.specs.PutBackValid.{PutBackIsValid}
 use Rattle.state_transfer.proofs.PutBackMachineLemmas.{units-standard}
 use Rattle.state_laws.proofs.LinesBack.{not-none, how-many}
-use Rattle.state_laws.proofs.PutBackRange.{copy-is, as-many-places, slots-back, HasName, names-put, all-standard, machine-in-range}
+use Rattle.state_laws.proofs.PutBackRange.{copy-is, as-many-places, slots-back, HasName, names-put, machine-in-range}
 use Rattle.nova_machine.proofs.Each.{every-replicate}
 use Rattle.saved_session.specs.Order.{place_of}
 use Rattle.state_laws.proofs.PutBackWatchLemmas.{watch-in-range}
@@ -135,7 +135,7 @@ time v present is = leb-true v.machine.cpu.time last_time is.machine.cpu.time
 
 units : (v : State) (present : Seen) → Valid v → AreStandard (put_back v present).machine.units
 unfolding machine_from
-units v present is = all-standard (map unit_from v.machine.units) present.machine.units (units-standard v.machine is.machine)
+units v present is = units-standard v.machine present.machine.units is.machine
 
 disk : (v : State) (present : Seen) → DiskIsItsFile (put_back v present)
 unfolding machine_from
