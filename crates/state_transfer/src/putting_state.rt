@@ -89,7 +89,7 @@ fn lacks_unit<U: Unit>(saved: &Saved, machine: &Machine<U>) -> bool
     requires { IsMachine (state_in saved.now).machine }
     ensures { result ≡ misses_unit (state_in saved.now).machine machine.now.units }
 {
-    saved.units.len() == 11 && !machine.has_unit(Kind::Qty)
+    saved.units.as_slice().len() == 11 && !machine.has_unit(Kind::Qty)
 }
 
 /// Puts a saved session back into a machine of the ten standard kinds, or of these and the multiplexer, to which nothing
