@@ -14,7 +14,7 @@ use Rattle.binary_load.specs.Tape.{Tape, put_all}
 use Rattle.unit_list.proofs.Resets.{reset-kinds}
 use Rattle.binary_load.proofs.StoreLemmas.{put_all-size}
 use Rattle.binary_load.proofs.RangeLemmas.{IsTapeInRange, tape-in_range, stored-memory}
-use Rattle.nova_memory.specs.Memory.{MemoryState, IsMemory, IsSize, fits_size, resized}
+use Rattle.nova_memory.specs.Memory.{MemoryState, IsMemory, IsSize, fits_size, resized, by_rule}
 use Rattle.nova_machine.specs.Machine.{MachineState, reset_devices, reset_machine}
 use Rattle.nova_machine.specs.Turn.{with_memory}
 use Rattle.nova_machine.specs.Registers.{with_register}
@@ -29,7 +29,7 @@ use Rattle.machine_laws.proofs.ValidInstruction.{reset-keeps}
 use Rattle.machine_laws.proofs.ValidBytes.{AreFiles, bytes-take, files-with}
 use Rattle.scp_examine.proofs.ValidLemmas.{LeavesRest, pc-valid}
 use Rattle.command_session.specs.RunEffects.{last_address, address_fits, starting_at, reset_where}
-use Rattle.plain_commands.specs.SetEffects.{sized}
+use Rattle.plain_commands.specs.SetEffects.{sized, ruled}
 use Rattle.command_session.specs.TapeEffects.{tape_in, tape_machine, loaded_machine}
 use Rattle.command_laws.proofs.WholeSays.{SaysBytes, whole-says}
 
@@ -86,6 +86,11 @@ pub sized-valid : (m : MachineState) (k : ℕ) → ValidMachine m → fits_size 
 sized-valid m k is fits =
     let size = size-is k fits in
     memory-valid m (resized m.processor.memory (1024 * k)) is (resized-memory m.processor.memory (1024 * k) is.memory size.most) size
+
+pub ruled-valid : (m : MachineState) (before : Bool) → ValidMachine m → ValidMachine (ruled m before)
+ruled-valid m before is =
+    let memory = is.memory in
+    memory-valid m (by_rule before m.processor.memory) is (record { whole = memory.whole; words = memory.words; size = memory.size; beyond = memory.beyond }) is.size
 
 -- ---- RESET, and where a run starts
 

@@ -26,7 +26,7 @@ use Rattle.machine_laws.proofs.StayingValid.{runs-stay-valid, kinds-begin}
 use Rattle.machine_laws.proofs.ValidBytes.{AreFiles}
 use Rattle.nova_machine.proofs.Each.{every-append, every-take, every-drop}
 use Rattle.terminal_ports.specs.Ports.{HaveNone}
-use Rattle.command_session.proofs.PortLemmas.{session-free}
+use Rattle.command_session.proofs.PortLemmas.{apart-free}
 use Rattle.command_laws.specs.Valid.{IsProgramMachine}
 use Rattle.command_laws.proofs.ValidWatch.{read-bytes}
 use Rattle.command_laws.proofs.ValidMachines.{GivesWhole, whole-bytes, memory-valid}
@@ -320,7 +320,7 @@ opening-good words options keys script files ahead input notes handed good =
           time = omega (arith, time);
           machine = fresh.own;
           count = length-map m.lines (renamed {Q = Peer} (λ _. Gone)) ∙ fresh.count;
-          ports = session-free (map (renamed {Q = Peer} (λ _. Gone)) m.lines) (none-seen m.lines fresh.free);
+          ports = apart-free (map (renamed {Q = Peer} (λ _. Gone)) m.lines) (none-seen m.lines fresh.free);
         };
         texts = record { few = omega arith; actions = tt; open_ = first.few; scripts = first.each };
         input = handed.read;
