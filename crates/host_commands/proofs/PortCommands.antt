@@ -11,11 +11,12 @@ use Rattle.telnet_lines.specs.Line.{LineOf, IsSettled, unconnected}
 use Rattle.telnet_lines.specs.Joined.{seen_line}
 use Rattle.terminal_ports.specs.Listening.{IsListening}
 use Rattle.terminal_ports.specs.Ports.{is_taken}
-use Rattle.terminal_ports.proofs.PortsApart.{ports, changed-set, changed-same, set-same, taken-by}
+use Rattle.terminal_ports.proofs.PortsApart.{changed-set, changed-same, set-same, taken-by}
 use Rattle.expect_actions.specs.Watch.{WatchState}
 use Rattle.nova_machine.specs.Machine.{MachineState, with_line}
 use Rattle.nova_machine.specs.Seen.{seen, beside}
 use Rattle.nova_machine.specs.Comes.{Output}
+use Rattle.nova_machine.specs.LineChanges.{ports_of}
 use Rattle.command_session.specs.declared.next.Next.TheVariants.{Go}
 use Rattle.command_session.specs.declared.fault.CommandFault.TheVariants.{NoSuchName, NotAttached, AlreadyAttached, OutOfRange, PortTaken, PortFailed, OutOfMemory}
 use Rattle.command_session.specs.Live.{Live, standing}
@@ -31,12 +32,17 @@ terminal-at : (s : LineState) (lines : List (LineOf ℕ)) (o : Option (LineOf �
 terminal-at s lines o is = slice_get-map (seen_line s) lines terminal_place ∙ ap (option_map (seen_line s)) is
 
 -- lines are seen with their ports
-seen-ports : (s : LineState) (lines : List (LineOf ℕ)) → ports (map (seen_line s) lines) ≡ ports lines
+seen-ports : (s : LineState) (lines : List (LineOf ℕ)) → ports_of (map (seen_line s) lines) ≡ ports_of lines
 seen-ports s [] = refl
 seen-ports s (line ∷ lines) = ap (λ (ps : List (Option ℕ)). line.port ∷ ps) (seen-ports s lines)
 
 seen-taken : (s : LineState) (lines : List (LineOf ℕ)) (port : ℕ) → is_taken port (map (seen_line s) lines) ≡ is_taken port lines
 seen-taken s lines port = taken-by port lines (map (seen_line s) lines) (seen-ports s lines)
+
+-- whether a line has the port was asked before
+pub taken-as : (taken tells : Bool) (old new : LineState) (lines : List (LineOf ℕ)) (line after : LineOf ℕ) (port : ℕ) (answer : Answer) → taken ≡ is_taken port lines
+    → attaches_by line.port taken tells port answer old line new after → attaches_by line.port (is_taken port lines) tells port answer old line new after
+taken-as taken tells old new lines line after port answer is told = subst (λ (t : Bool). attaches_by line.port t tells port answer old line new after) is told
 
 -- ---- what needs a port
 

@@ -138,7 +138,6 @@ pub fn disconnect<U: Unit, L: Lines>(
 }
 
 // Whether a line of a machine has that port, the console line too.
-#[tactic(auto, using(crate::proofs::TakenLemmas::console_first, crate::proofs::TakenLemmas::taken_first))]
 fn has_taken<U: Unit>(machine: &Machine<U>, port: u64) -> bool
     ensures { result ≡ is_taken port machine.now.lines }
 {

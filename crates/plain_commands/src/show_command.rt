@@ -1,5 +1,5 @@
 // SHOW.
-ghost use Rattle.std.specs.Prelude.{◌<◌, ◌++◌, ◌∷◌, ℕ, List, [], Some, IsTrue, codes, decimal};
+ghost use Rattle.std.specs.Prelude.{◌≡◌, ◌<◌, ◌++◌, ◌∷◌, ℕ, List, [], Some, IsTrue, codes, decimal};
 ghost use Rattle.fault_counts.specs.Faults.{CountsFault};
 ghost use Rattle.file_traits.specs.Streams.{Puts};
 ghost use Rattle.unit_trait.specs.Kinds.{units_of};
