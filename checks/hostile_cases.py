@@ -251,12 +251,13 @@ def keys(chance, shared):
 # --- state files
 
 class Fields:
-    """The fields of a state file from the left: the place, the width and the name of each."""
+    """The fields of a state file of either version from the left: the place, the width and the name of each."""
 
     def __init__(self, state):
         self.state = state
         self.at = 10
         self.all = [(0, 8, "head"), (8, 2, "version")]
+        self.is_first = state[8:10] == b"\0\1"
         self.read_all()
 
     def number(self, name, width):
@@ -280,7 +281,7 @@ class Fields:
         for _ in range(4):
             self.number("accumulator", 2)
         self.numbers(("carry", 1), ("PC", 2), ("on", 1), ("hold", 1), ("mask", 2), ("switches", 2), ("STOP_DEV", 1),
-                     ("time", 8), ("keys taken", 8))
+                     *([] if self.is_first else [("rule of auto-index words", 1)]), ("time", 8), ("keys taken", 8))
         self.all.append((self.at, 2048 * size, "words"))
         self.at += 2048 * size
         for _ in range(self.number("number of units", 1)):
@@ -292,7 +293,7 @@ class Fields:
             self.numbers(("unit of a file", 1), ("drive of a file", 1), ("read only", 1))
             self.text("name", 2)
             self.numbers(("length of a file", 8), ("digest of a file", 32))
-        self.number("port", 2)
+        self.numbers(*(("port", 2) for _ in range(1 if self.is_first else 3)))
         for _ in range(self.number("number of breaks", 2)):
             self.numbers(("address of a break", 2), ("count of a break", 4))
             self.text("actions of a break", 2)
@@ -345,7 +346,8 @@ def state(chance, shared):
     files = {name: content if chance.randrange(8) else spoil(chance, content) for name, content in files.items()}
     form = chance.choice(["", "-F "])
     lines = ["D 100 7", f"RESTORE {form}s", "E PC,100", "SHOW DSK", "SHOW BREAK", "SHOW EXPECT", "SHOW SEND",
-             "SHOW QUEUE", "SHOW TTI1", "SHOW TIME", "E STATE", "E MTA STATE", "STEP 200", "SAVE again", "DETACH ALL",
+             "SHOW QUEUE", "SHOW TTI1", "SHOW CPU", "SHOW TIME", "E STATE", "E MTA STATE", "STEP 200", "SAVE again",
+             "DETACH ALL",
              "RESTORE again", "DETACH ALL", f"RESTORE {form}s"]
     case = Case(lines, ["-q", "-l", "2000", "-m", "500"], {**files, "s": content}, ["s"], [0, 104])
     # Two hundred instructions print no more bytes.
@@ -419,6 +421,7 @@ class Lines:
             lambda: f"ATTACH TTI1 {pick('0', '65536', 'x')}",
             lambda: f"DETACH {self.unit()}",
             lambda: f"SET {pick('CPU 4K', 'CPU 5K', 'CPU', 'TTI1 DISCONNECT', 'X')}",
+            lambda: f"SET CPU AUTOBIT={pick('BEFORE', 'after', 'X', '')}",
             lambda: f"SHOW {pick('TIME', 'QUEUE', 'BREAK', 'EXPECT', 'SEND', 'CPU', 'VERSION', self.unit())}",
             lambda: f"DO {pick('', '-V ', '-E ', '-V -E ')}{pick('job', 'inner', 'inner a b', name())}",
             lambda: f"GOTO {pick('a', 'b', 'none', '')}",
@@ -517,7 +520,7 @@ def guest_word(chance):
 
 
 def guest(chance, shared):
-    lines = [f"SET CPU {chance.choice([4, 32, 32])}K"]
+    lines = [f"SET CPU {chance.choice([4, 32, 32])}K", f"SET CPU AUTOBIT={chance.choice(['BEFORE', 'AFTER'])}"]
     lines += [f"ATTACH {unit} {unit}" for unit in ["DSK", "MTA0", "MTA3", "PTR", "PTP", "LPT"] if chance.randrange(2)]
     # The program goes round; an interrupt goes to its middle.
     lines += ["D 1 140"] + [f"D {at:o} {guest_word(chance):o}" for at in range(0o100, 0o177)] + ["D 177,200,201 100"]

@@ -4,7 +4,7 @@ use Rattle.std.proofs.Common.{drop, replicate, refl, sym, ap, ◌∙◌, arith}
 use Rattle.std.proofs.lemmas.List.{length-take, length-drop}
 use Rattle.nova_memory.specs.Memory.{MemoryState, put}
 use Rattle.binary_load.specs.Tape.{Store, stores_from, words_of, word_at, put_all}
-use Rattle.nova_memory.proofs.Chains.{put-size, put-rule}
+use Rattle.nova_memory.proofs.Chains.{put-size}
 
 -- the words of bytes, the first one first
 pub words_first : (bytes : List ℕ) → 2 ≤ length bytes → words_of bytes ≡ word_at bytes 0 ∷ words_of (drop 2 bytes)
@@ -27,11 +27,6 @@ pub put_all-size : (stores : List Store) (m : MemoryState) → (put_all m stores
 put_all-size [] m = refl
 put_all-size (store ∷ stores) m =
     put_all-size stores (put m store.at store.word) ∙ put-size m store.at store.word
-
-pub put_all-rule : (stores : List Store) (m : MemoryState) → (put_all m stores).before ≡ m.before
-put_all-rule [] m = refl
-put_all-rule (store ∷ stores) m =
-    put_all-rule stores (put m store.at store.word) ∙ put-rule m store.at store.word
 
 pub put_all-append : (one other : List Store) (m : MemoryState) → put_all m (one ++ other) ≡ put_all (put_all m one) other
 put_all-append [] other m = refl

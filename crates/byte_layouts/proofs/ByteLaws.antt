@@ -1,6 +1,6 @@
 -- The text of a value is of bytes where the byte lists in it are.
 use Rattle.std.proofs.Common.{ℕ, List, [], ◌∷◌, ◌++◌, length}
-use Rattle.byte_layouts.specs.Layout.{Two, width, Layout, Head, Version, Number, Bytes, Sized, Many, Listed, Then, Made, number_text, texts, text, AreBytes, Follow}
+use Rattle.byte_layouts.specs.Layout.{Two, width, Layout, Head, Version, Given, Number, Bytes, Sized, Many, Listed, Then, Made, number_text, texts, text, AreBytes, Follow}
 use Rattle.byte_layouts.specs.Readers.{with_last}
 use Rattle.byte_layouts.proofs.Widths.{number_bytes}
 use Rattle.byte_layouts.proofs.Lists.{bytes_there}
@@ -8,7 +8,8 @@ use Rattle.byte_layouts.proofs.Lists.{bytes_there}
 -- Each byte list of a value is of bytes. Nothing is asked of its numbers.
 abbrev pub IsOfBytes : {A : Type 0} → Layout A → A → Type 0
 IsOfBytes (Head head) u = AreBytes head
-IsOfBytes (Version version) u = Unit {0}
+IsOfBytes (Version ok) n = Unit {0}
+IsOfBytes (Given a) x = Unit {0}
 IsOfBytes (Number size ok) n = Unit {0}
 IsOfBytes (Bytes count ok) bytes = AreBytes bytes
 IsOfBytes (Sized size ok fits) bytes = AreBytes bytes
@@ -28,7 +29,8 @@ texts_bytes t H next one s (x ∷ xs) h = joined_bytes (t s x) (texts t next (ne
 
 pub text_bytes : {A : Type 0} (l : Layout A) (x : A) → IsOfBytes l x → AreBytes (text l x)
 text_bytes (Head head) u h = h
-text_bytes (Version version) u h = bytes_there (number_text (width Two) version) (number_bytes Two version)
+text_bytes (Version ok) n h = bytes_there (number_text (width Two) n) (number_bytes Two n)
+text_bytes (Given a) x h = tt
 text_bytes (Number size ok) n h = bytes_there (number_text (width size) n) (number_bytes size n)
 text_bytes (Bytes count ok) bytes h = h
 text_bytes (Sized size ok fits) bytes h =

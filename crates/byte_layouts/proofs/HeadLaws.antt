@@ -1,10 +1,9 @@
 -- The readers of what each text begins with: its first bytes, and the version of its format.
-use Rattle.std.proofs.Common.{◌≡◌, ◌≢◌, ℕ, ◌+◌, ◌^◌, ◌<◌, Bool, true, false, cond, eqb, List, [], ◌∷◌, ◌++◌, length, take, Result, Ok, Err, refl, sym, ap, ◌∙◌, append_assoc, arith, eq-eqb}
-use Rattle.std.specs.Prelude.{◌&&◌, ◌==◌}
+use Rattle.std.proofs.Common.{◌≡◌, ◌≢◌, ℕ, ◌+◌, ◌^◌, Bool, true, false, cond, eqb, List, [], ◌∷◌, ◌++◌, length, take, Result, Ok, Err, refl, sym, ap, ◌∙◌, append_assoc, arith}
+use Rattle.std.specs.Prelude.{◌&&◌}
 use Rattle.std.specs.Int.{w16}
 use Rattle.std.specs.Str.{bytes_eq}
 use Rattle.std.proofs.Math.Seq.{take-nil}
-use Rattle.std.proofs.lemmas.Bool.{eqb-true}
 use Rattle.std.proofs.lemmas.List.{take_at, take_all, length-append}
 use Rattle.std.proofs.lemmas.Slice.Eq.{bytes_eq-Decides}
 use Rattle.byte_layouts.specs.declared.fault.FieldFault.{FieldFault}
@@ -91,10 +90,6 @@ head_law head =
 
 -- ---- the version
 
-pub version_law : (version : ℕ) → IsReaderOf (version_at version >>= (λ n. gives tt)) (λ (u : Unit {0}). number_text w16 version) (λ u. version < 2 ^ 16)
+pub version_law : (ok : ℕ → Bool) → IsReaderOf (version_at ok) (number_text w16) (λ n. Below (2 ^ 16) n × (ok n ≡ true))
 unfolding version_at
-version_law version =
-    made_is (version_at version) (λ n. tt) (λ (u : Unit {0}). version) (number_text w16) (λ n. Below (2 ^ 16) n × ((n == version) ≡ true)) (λ u. version < 2 ^ 16)
-    (tested_or_is (λ place n. Version n) (λ n. n == version) (number w16) (number_text w16) (Below (2 ^ 16)) u16_is)
-    (λ n has. let is = eqb-true n version has.1 in let lt = has.0 in (sym is, omega (arith, is, lt)))
-    (λ u has. ((has, eq-eqb version version refl), refl))
+version_law ok = tested_or_is (λ place n. Version n) ok (number w16) (number_text w16) (Below (2 ^ 16)) u16_is

@@ -1,8 +1,8 @@
 -- What holds of every layout: its texts and what bytes say tell each other.
 use Rattle.std.proofs.Common.{◌≡◌, ℕ, Bool, true, List, [], ◌∷◌, ◌++◌, length, refl, sym, ap, subst, ◌∙◌}
-use Rattle.byte_layouts.specs.Layout.{Size, width, limit, Layout, Head, Version, Number, Bytes, Sized, Many, Listed, Then, Made, number_text, texts, text, reading, Follow, IsNumber, Has, loose}
+use Rattle.byte_layouts.specs.Layout.{Size, width, limit, Layout, Head, Version, Given, Number, Bytes, Sized, Many, Listed, Then, Made, number_text, texts, text, reading, Follow, IsNumber, Has, loose}
 use Rattle.byte_layouts.specs.Readers.{Reader, ◌>>=◌, gives, number, counted, tested, chain, with_last}
-use Rattle.byte_layouts.proofs.ReaderLaws.{IsReaderOf, HasSize, counted_is, joined_is, bound_is, made_is, retold, tested_is, splits}
+use Rattle.byte_layouts.proofs.ReaderLaws.{IsReaderOf, HasSize, counted_is, joined_is, bound_is, made_is, retold, gives_is, tested_is, splits}
 use Rattle.byte_layouts.proofs.Widths.{Below, sized_number}
 use Rattle.byte_layouts.proofs.HeadLaws.{head_law, version_law}
 use Rattle.byte_layouts.proofs.Lists.{IsChain, chain_is, bytes_there, bytes_back}
@@ -36,6 +36,9 @@ listed_law size ok each t H law =
     (ap (λ (n : ℕ). number_text (width size) n ++ texts t with_last [] xs) (sym more.0), (subst (IsNumber size ok) (sym more.0) has, more.1)))
     (λ xs has. (length xs, has.0, (refl, has.1), refl))
 
+given_law : {A : Type 0} (a : A) → IsReaderOf (gives a) (λ (x : A). []) (λ x. x ≡ a)
+given_law {A} a = gives_is a (λ (x : A). []) (λ x. x ≡ a) refl refl (λ y is. is)
+
 -- a pair of that first value
 abbrev Behind : {A B : Type 0} → (A → B → Type 0) → A → A × B → Type 0
 Behind G x p = (p.0 ≡ x) × G x p.1
@@ -65,7 +68,8 @@ then_law {A} {B} a b t u H G one other =
 
 pub law : {A : Type 0} (l : Layout A) → IsReaderOf (reading l) (text l) (Has l)
 law (Head head) = head_law head
-law (Version version) = version_law version
+law (Version ok) = version_law ok
+law (Given a) = given_law a
 law (Number size ok) = number_law size ok
 law (Bytes count ok) = bytes_law count ok
 law (Sized size ok fits) = sized_law size ok fits
@@ -86,7 +90,8 @@ texts_same t u next same s (x ∷ xs) = λ i. same s x i ++ texts_same t u next 
 -- what has no test is written the same
 loose_text : {A : Type 0} (l : Layout A) (x : A) → text (loose l) x ≡ text l x
 loose_text (Head head) u = refl
-loose_text (Version version) u = refl
+loose_text (Version ok) n = refl
+loose_text (Given a) x = refl
 loose_text (Number size ok) n = refl
 loose_text (Bytes count ok) bytes = refl
 loose_text (Sized size ok fits) bytes = refl
@@ -112,7 +117,8 @@ follow_same H G next more s (x ∷ xs) has = (more s x has.0, follow_same H G ne
 -- what passes its tests has its widths
 pub loosened : {A : Type 0} (l : Layout A) (x : A) → Has l x → Has (loose l) x
 loosened (Head head) u has = tt
-loosened (Version version) u has = has
+loosened (Version ok) n has = (has.0, refl)
+loosened (Given a) x has = has
 loosened (Number size ok) n has = (has.0, refl)
 loosened (Bytes count ok) bytes has = (has.0, refl)
 loosened (Sized size ok fits) bytes has = ((has.0.0, refl), (has.1.0, refl))

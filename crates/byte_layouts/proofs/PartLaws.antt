@@ -9,7 +9,7 @@ use Rattle.byte_layouts.specs.declared.fault.FieldFault.TheVariants.{Truncated, 
 use Rattle.byte_layouts.specs.Readers.{At, at_of, Reader, followed, gives, chain, with_last, longer, Fails}
 use Rattle.byte_layouts.specs.Layout.{Layout, text, reading}
 use Rattle.byte_layouts.specs.Held.{Held, at_in, IsBytes, IsPassed, IsThere, Passed}
-use Rattle.byte_layouts.specs.Parts.{Found, Taken, Takes, Further, IsRead, GoesOn, rest_of_one, rest_of_elements, rest_of_list, rest_of_measured, both}
+use Rattle.byte_layouts.specs.Parts.{Found, Taken, Takes, Further, IsRead, GoesOn, rest_of_one, rest_of_elements, rest_of_list, rest_of_measured, rest_of_telling, both}
 use Rattle.byte_layouts.proofs.LayoutLaws.{law}
 
 -- ---- bytes that were passed
@@ -265,3 +265,30 @@ measured_fresh {X} {Y} {A} view count reader each left front none at =
     ap (λ (f : List A). rest_of_measured view count reader each None left f at) none
     ∙ same_followed (reader at) (λ y next. put_last {A = List A} y (rest_of_elements each (count y) [] next)) (λ y next. put_last {A = List A} y (chain each with_last (count y) [] next))
     (λ y next. ap (put_last {A = List A} y) (none_before (chain each with_last (count y) [] next)))
+
+-- ---- a value and the part behind it, which is told by the value
+
+abbrev put_value : {Y Z : Type 0} → Y → Result (Z × At) FieldFault → Result ((Y × Z) × At) FieldFault
+put_value y read = followed read (λ z next. Ok ((y, z), next))
+
+pub teller_taken : {X Y Z : Type 0} (view : X → Y) (reader : Reader Y) (told : Y → Reader Z) (rest next : Reader Z) (o : Option X) (x : X) (old new : Held) → is_some o ≡ false
+    → next ≡ told (view x) → Taken reader (view x) old new → Further (rest_of_telling view reader told rest o) (rest_of_telling view reader told next (Some x)) old new
+teller_taken view reader told rest next (Some y) x old new none is it = absurd cc
+teller_taken {X} {Y} {Z} view reader told rest next None x old new none is it = record {
+  passed = it.passed;
+  goes = λ tail. ap (λ (z : Result (Y × At) FieldFault). followed z (λ y at. put_value y (told y at))) (it.found tail)
+      ∙ ap (λ (r : Reader Z). put_value (view x) (r (longer (at_in new) tail))) (sym is);
+}
+
+pub telling_goes : {X Y Z : Type 0} (over : Bool) (result : Result (Unit {0}) FieldFault) (view : X → Y) (reader : Reader Y) (told other : Y → Reader Z) (rest after : Reader Z) (before : Reader (Y × Z)) (o : Option X)
+    (old mid new : Held) → Further before (rest_of_telling view reader told rest o) old mid → is_some o ≡ true → GoesOn (over ≡ true) result rest after mid new
+    → GoesOn ((is_some o && over) ≡ true) result before (rest_of_telling view reader other after o) old new
+telling_goes over result view reader told other rest after before None old mid new one some it = absurd cc
+telling_goes over result view reader told other rest after before (Some x) old mid new one some it =
+    goes_on ((true && over) ≡ true) result before (both (gives (view x)) rest) (both (gives (view x)) after) old mid new one
+    (second_goes true over result (gives (view x)) rest after mid new (view x, λ at. refl) refl it)
+
+pub telling_fresh : {X Y Z : Type 0} (view : X → Y) (reader : Reader Y) (told whole : Y → Reader Z) (rest : Reader Z) → ((y : Y) (at : At) → told y at ≡ whole y at) → (at : At)
+    → rest_of_telling view reader told rest None at ≡ followed (reader at) (λ y next. put_value y (whole y next))
+telling_fresh {X} {Y} {Z} view reader told whole rest same at =
+    same_followed (reader at) (λ y next. put_value {Z = Z} y (told y next)) (λ y next. put_value {Z = Z} y (whole y next)) (λ y next. ap (put_value {Z = Z} y) (same y next))

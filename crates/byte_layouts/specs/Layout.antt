@@ -24,8 +24,10 @@ limit Eight = 2 ^ 64
 pub data Layout : Type 0 → Type 1 where
   -- what each text begins with: a fault of its own is that it begins otherwise
   Head : List ℕ → Layout (Unit {0})
-  -- the version of the format, in 16 bits: a fault of its own is that it is another one
-  Version : ℕ → Layout (Unit {0})
+  -- the version of the format, in 16 bits, which passes a test: a fault of its own is that it does not
+  Version : (ℕ → Bool) → Layout ℕ
+  -- no bytes: the value is that one
+  Given : {A : Type 0} → A → Layout A
   -- a number that passes a test, its high byte first
   Number : Size → (ℕ → Bool) → Layout ℕ
   -- so many bytes that pass a test
@@ -63,7 +65,8 @@ texts each next s (x ∷ xs) = each s x ++ texts each next (next s x) xs
 
 abbrev pub text : {A : Type 0} → Layout A → A → List ℕ
 text (Head head) u = head
-text (Version version) u = number_text w16 version
+text (Version ok) n = number_text w16 n
+text (Given a) x = []
 text (Number size ok) n = number_text (width size) n
 text (Bytes count ok) bytes = bytes
 text (Sized size ok fits) bytes = number_text (width size) (length bytes) ++ bytes
@@ -77,7 +80,8 @@ text (Made make part there back a) y = text a (part y)
 
 abbrev pub reading : {A : Type 0} → Layout A → Reader A
 reading (Head head) = head_at head >>= (λ bytes. gives tt)
-reading (Version version) = version_at version >>= (λ n. gives tt)
+reading (Version ok) = version_at ok
+reading (Given a) = gives a
 reading (Number size ok) = tested ok (number (width size))
 reading (Bytes count ok) = tested ok (counted count)
 reading (Sized size ok fits) = tested ok (number (width size)) >>= (λ count. tested fits (counted count))
@@ -102,7 +106,8 @@ IsNumber size ok n = (n < limit size) × IsTrue (ok n)
 
 abbrev pub Has : {A : Type 0} → Layout A → A → Type 0
 Has (Head head) u = Unit {0}
-Has (Version version) u = version < 2 ^ 16
+Has (Version ok) n = (n < 2 ^ 16) × IsTrue (ok n)
+Has (Given a) x = x ≡ a
 Has (Number size ok) n = IsNumber size ok n
 Has (Bytes count ok) bytes = ((length bytes ≡ count) × AreBytes bytes) × IsTrue (ok bytes)
 Has (Sized size ok fits) bytes = IsNumber size ok (length bytes) × (AreBytes bytes × IsTrue (fits bytes))
@@ -114,7 +119,8 @@ Has (Made make part there back a) y = Has a (part y)
 -- No list of a value is longer than the number before it can tell.
 abbrev pub Fits : {A : Type 0} → Layout A → A → Type 0
 Fits (Head head) u = Unit {0}
-Fits (Version version) u = Unit {0}
+Fits (Version ok) n = Unit {0}
+Fits (Given a) x = Unit {0}
 Fits (Number size ok) n = Unit {0}
 Fits (Bytes count ok) bytes = Unit {0}
 Fits (Sized size ok fits) bytes = length bytes < limit size
@@ -126,7 +132,8 @@ Fits (Made make part there back a) y = Fits a (part y)
 -- the same fields with no test
 abbrev pub loose : {A : Type 0} → Layout A → Layout A
 loose (Head head) = Head head
-loose (Version version) = Version version
+loose (Version ok) = Version (λ n. true)
+loose (Given a) = Given a
 loose (Number size ok) = Any size
 loose (Bytes count ok) = Bytes count (λ bytes. true)
 loose (Sized size ok fits) = Sized size (λ n. true) (λ bytes. true)

@@ -1,3 +1,4 @@
+pub mod Nothing
 pub mod Readers
 pub mod Held
 pub mod Layout

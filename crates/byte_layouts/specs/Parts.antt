@@ -87,3 +87,8 @@ rest_of_measured view count reader each None left front =
     reader >>= (λ y. rest_of_elements each (count y) front >>= (λ xs. gives (y, xs)))
 rest_of_measured view count reader each (Some x) left front =
     rest_of_elements each left front >>= (λ xs. gives (view x, xs))
+
+-- what is still read of a value and of the part behind it, which is told by the value: where nothing was read, where it was
+abbrev pub rest_of_telling : {X Y Z : Type 0} → (X → Y) → Reader Y → (Y → Reader Z) → Reader Z → Option X → Reader (Y × Z)
+rest_of_telling view reader told rest None = reader >>= (λ y. told y >>= (λ z. gives (y, z)))
+rest_of_telling view reader told rest (Some x) = both (gives (view x)) rest

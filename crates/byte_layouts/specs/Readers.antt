@@ -1,5 +1,5 @@
 -- Readers of fields: each reads from the front of the bytes that are left.
-use Rattle.std.specs.Prelude.{◌≡◌, ℕ, zero, suc, ◌+◌, Bool, List, [], ◌∷◌, ◌++◌, length, take, drop, Result, Ok, Err, nat_lt, ◌==◌, if◌then◌else◌}
+use Rattle.std.specs.Prelude.{◌≡◌, ℕ, zero, suc, ◌+◌, Bool, List, [], ◌∷◌, ◌++◌, length, take, drop, Result, Ok, Err, nat_le, nat_lt, ◌&&◌, if◌then◌else◌}
 use Rattle.std.specs.Str.{bytes_eq}
 use Rattle.std.specs.Int.{Width, w16, byte_len, from_be_bytes}
 use Rattle.byte_layouts.specs.declared.fault.FieldFault.{FieldFault}
@@ -67,8 +67,12 @@ unfoldable pub head_at : List ℕ → Reader (List ℕ)
 head_at head at = head_if head (begins head at.rest) at
 
 -- the version of the format
-unfoldable pub version_at : ℕ → Reader ℕ
-version_at version = tested_or (λ place n. Version n) (λ n. n == version) (number w16)
+unfoldable pub version_at : (ℕ → Bool) → Reader ℕ
+version_at ok = tested_or (λ place n. Version n) ok (number w16)
+
+-- the versions from the first one to the newest
+abbrev pub is_version_to : ℕ → ℕ → Bool
+is_version_to newest n = nat_le 1 n && nat_le n newest
 
 -- so many, one behind the other; what each can be may depend on those before it
 abbrev pub chain : {A S : Type 0} → (S → Reader A) → (S → A → S) → ℕ → S → Reader (List A)

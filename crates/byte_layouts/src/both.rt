@@ -4,6 +4,7 @@ ghost use Rattle.byte_layouts.specs.Layout.{◌&◌};
 ghost use Rattle.byte_layouts.specs.Parts.{GoesOn, both};
 
 use crate::fault::FieldFault;
+use crate::known::Known;
 use crate::part::Part;
 use crate::pending::Pending;
 use std::alloc::Global;
@@ -18,15 +19,16 @@ pub struct Both<A: Part, B: Part> {
 // Reads on in a part, and in the one behind it once it is over.
 pub fn go_on_both<A: Part, B: Part>(
     alloc: Global,
+    known: Known,
     pending: &mut Pending,
     first: &mut A,
     second: &mut B,
 ) -> Result<(), FieldFault>
-    ensures { GoesOn ((A.is_over first.new && B.is_over second.new) ≡ true) result (both (A.rest first.old) (B.rest second.old))
-        (both (A.rest first.new) (B.rest second.new)) pending.old pending.new }
+    ensures { GoesOn ((A.is_over first.new && B.is_over second.new) ≡ true) result (both (A.rest known first.old) (B.rest known second.old))
+        (both (A.rest known first.new) (B.rest known second.new)) pending.old pending.new }
 {
-    first.go_on(alloc, pending)?;
-    second.go_on(alloc, pending)
+    first.go_on(alloc, known, pending)?;
+    second.go_on(alloc, known, pending)
 }
 
 impl<A: Part, B: Part> Part for Both<A, B> {
@@ -36,9 +38,9 @@ impl<A: Part, B: Part> Part for Both<A, B> {
 
     ghost view = { λ x. (A.view x.0, B.view x.1) };
 
-    ghost layout = { A.layout & B.layout };
+    ghost layout = { λ known. A.layout known & B.layout known };
 
-    ghost rest = { λ s. both (A.rest s.first) (B.rest s.second) };
+    ghost rest = { λ known s. both (A.rest known s.first) (B.rest known s.second) };
 
     ghost is_over = { λ s. A.is_over s.first && B.is_over s.second };
 
@@ -49,8 +51,13 @@ impl<A: Part, B: Part> Part for Both<A, B> {
         }
     }
 
-    fn go_on(&mut self, alloc: Global, pending: &mut Pending) -> Result<(), FieldFault> {
-        go_on_both(alloc, pending, &mut self.first, &mut self.second)
+    fn go_on(
+        &mut self,
+        alloc: Global,
+        known: Known,
+        pending: &mut Pending,
+    ) -> Result<(), FieldFault> {
+        go_on_both(alloc, known, pending, &mut self.first, &mut self.second)
     }
 
     fn finish(self) -> (A::Output, B::Output) {

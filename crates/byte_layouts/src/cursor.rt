@@ -3,7 +3,7 @@ ghost use Rattle.std.specs.Prelude.{◌≡◌, ◌+◌, ◌<◌, ◌^◌, ◌==�
 ghost use Rattle.std.specs.Int.{w8, w16, w32, w64};
 ghost use Rattle.byte_layouts.specs.Held.{IsBytes};
 ghost use Rattle.byte_layouts.specs.Layout.{Head, Version, reading};
-ghost use Rattle.byte_layouts.specs.Readers.{begins, At, Reads, at_of, number, counted, tested};
+ghost use Rattle.byte_layouts.specs.Readers.{begins, At, Reads, at_of, number, counted, tested, is_version_to};
 
 use crate::fault::FieldFault;
 use std::marker::Model;
@@ -190,16 +190,16 @@ impl<'a> Cursor<'a> {
         Ok(())
     }
 
-    /// The version of the format.
+    /// The version of the format, from the first one to the newest.
     #[tactic(auto, unfolding(crate::specs::Readers::version_at))]
-    pub fn version(&mut self, version: u16) -> Result<(), FieldFault>
-        ensures { Reads (λ u. u) result self.new (reading (Version version) self.old) }
+    pub fn version_to(&mut self, newest: u16) -> Result<u16, FieldFault>
+        ensures { Reads (λ n. n) result self.new (reading (Version (is_version_to newest)) self.old) }
     {
         let found = self.u16()?;
-        if found != version {
+        if found < 1 || found > newest {
             return Err(FieldFault::Version(found));
         }
-        Ok(())
+        Ok(found)
     }
 }
 

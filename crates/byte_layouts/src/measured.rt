@@ -1,6 +1,7 @@
 // A part that is a value and the values behind it, as many as it tells.
 ghost use Rattle.std.specs.Prelude.{◌≡◌, ◌&&◌, ◌==◌, ℕ, List, [], map};
 ghost use Rattle.std.specs.Option.{is_some};
+ghost use Rattle.byte_layouts.specs.declared.known.Known.{Known};
 ghost use Rattle.byte_layouts.specs.Readers.{Reads};
 ghost use Rattle.byte_layouts.specs.Layout.{Layout, Many, Then, reading};
 ghost use Rattle.byte_layouts.specs.Parts.{GoesOn, rest_of_measured};
@@ -8,6 +9,7 @@ ghost use Rattle.byte_layouts.specs.Parts.{GoesOn, rest_of_measured};
 use crate::cursor::Cursor;
 use crate::fault::FieldFault;
 use crate::format::Format;
+use crate::known::Known;
 use crate::list::take_elements;
 use crate::part::Part;
 use crate::pending::Pending;
@@ -24,13 +26,13 @@ pub trait Measure {
 
     ghost view: { Self.Item → Value };
 
-    ghost layout: { Layout Value };
+    ghost layout: { Known → Layout Value };
 
     ghost count: { Value → ℕ };
 
     /// Reads a value.
-    fn read(alloc: Global, cursor: &mut Cursor) -> Result<Self::Item, FieldFault>
-        ensures read { Reads view result cursor.new (reading layout cursor.old) };
+    fn read(alloc: Global, cursor: &mut Cursor, known: Known) -> Result<Self::Item, FieldFault>
+        ensures read { Reads view result cursor.new (reading (layout known) cursor.old) };
 
     /// How many others stand behind it.
     fn count(item: &Self::Item) -> u32
@@ -47,14 +49,15 @@ impl<M: Measure> Format for HeadOf<M> {
 
     ghost view = { M.view };
 
-    ghost layout = { λ before. M.layout };
+    ghost layout = { λ known before. M.layout known };
 
     fn read(
         alloc: Global,
         cursor: &mut Cursor,
+        known: Known,
         _before: &[M::Item],
     ) -> Result<M::Item, FieldFault> {
-        M::read(alloc, cursor)
+        M::read(alloc, cursor, known)
     }
 }
 
@@ -73,9 +76,9 @@ impl<M: Measure, R: Format> Part for Measured<M, R> {
 
     ghost view = { λ x. (M.view x.0, map R.view x.1.items) };
 
-    ghost layout = { Then M.layout (λ x. Many (M.count x) R.layout) };
+    ghost layout = { λ known. Then (M.layout known) (λ x. Many (M.count x) (R.layout known)) };
 
-    ghost rest = { λ s. rest_of_measured M.view M.count (reading M.layout) (λ front. reading (R.layout front)) s.head s.left (map R.view s.items.items) };
+    ghost rest = { λ known s. rest_of_measured M.view M.count (reading (M.layout known)) (λ front. reading (R.layout known front)) s.head s.left (map R.view s.items.items) };
 
     ghost is_over = { λ s. is_some s.head && s.left == 0 };
 
@@ -87,13 +90,18 @@ impl<M: Measure, R: Format> Part for Measured<M, R> {
         }
     }
 
-    fn go_on(&mut self, alloc: Global, pending: &mut Pending) -> Result<(), FieldFault> {
+    fn go_on(
+        &mut self,
+        alloc: Global,
+        known: Known,
+        pending: &mut Pending,
+    ) -> Result<(), FieldFault> {
         if self.head.is_none() {
-            let head = take_next::<HeadOf<M>>(alloc, pending, &[])?;
+            let head = take_next::<HeadOf<M>>(alloc, known, pending, &[])?;
             self.left = M::count(&head);
             self.head = Some(head);
         }
-        take_elements::<R>(alloc, pending, &mut self.items, &mut self.left)
+        take_elements::<R>(alloc, known, pending, &mut self.items, &mut self.left)
     }
 
     fn finish(self) -> (M::Item, Vec<R::Item>) {

@@ -7,6 +7,7 @@ ghost use Rattle.byte_layouts.specs.Parts.{GoesOn, rest_of_one};
 
 use crate::fault::FieldFault;
 use crate::format::Format;
+use crate::known::Known;
 use crate::part::Part;
 use crate::pending::Pending;
 use crate::trying::take_next;
@@ -25,9 +26,9 @@ impl<R: Format> Part for One<R> {
 
     ghost view = { R.view };
 
-    ghost layout = { R.layout [] };
+    ghost layout = { λ known. R.layout known [] };
 
-    ghost rest = { λ s. rest_of_one R.view (reading (R.layout [])) s.item };
+    ghost rest = { λ known s. rest_of_one R.view (reading (R.layout known [])) s.item };
 
     ghost is_over = { λ s. is_some s.item };
 
@@ -35,9 +36,14 @@ impl<R: Format> Part for One<R> {
         One { item: None }
     }
 
-    fn go_on(&mut self, alloc: Global, pending: &mut Pending) -> Result<(), FieldFault> {
+    fn go_on(
+        &mut self,
+        alloc: Global,
+        known: Known,
+        pending: &mut Pending,
+    ) -> Result<(), FieldFault> {
         if self.item.is_none() {
-            self.item = Some(take_next::<R>(alloc, pending, &[])?);
+            self.item = Some(take_next::<R>(alloc, known, pending, &[])?);
         }
         Ok(())
     }

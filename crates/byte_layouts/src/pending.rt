@@ -10,8 +10,8 @@ use std::alloc::{AllocError, Global};
 use std::marker::Model;
 
 /// How many bytes there is room for from the first: a piece of 4096 bytes, and what may wait before it of a record of
-/// 583 bytes. Where more bytes wait, more room is taken.
-const ROOM: usize = 4096 + 582;
+/// 795 bytes. Where more bytes wait, more room is taken.
+const ROOM: usize = 4096 + 794;
 
 /// The bytes that came, of which the first ones were read, the place behind those in all bytes, and what hashed them.
 #[derive(Drop)]

@@ -1,12 +1,14 @@
 // A text that is read as it comes.
 ghost use Rattle.std.specs.Prelude.{◌≡◌, ◌≤◌, ◌++◌, ℕ, List, [], Ok, Err, IfOk, IsErr, OnErr, OnOk, length, true, IsTrue};
 ghost use Rattle.byte_layouts.specs.declared.fault.FieldFault.TheVariants as faults;
+ghost use Rattle.byte_layouts.specs.Nothing.{nothing};
 ghost use Rattle.byte_layouts.specs.Layout.{reading};
 ghost use Rattle.byte_layouts.specs.Readers.{Gives};
 ghost use Rattle.byte_layouts.specs.Whole.{whole};
 ghost use Rattle.byte_layouts.specs.Fed.{is_over_at, IsFed, IsSettled, IsWanted, Told};
 
 use crate::fault::FieldFault;
+use crate::known::Known;
 use crate::part::Part;
 use crate::pending::Pending;
 use crate::stage::Stage;
@@ -30,13 +32,13 @@ pub trait Fed {
 }
 
 impl<P: Part> Fed for Reading<P> {
-    ghost IsFed = { λ r fed. IsFed r.stage (reading P.layout) (P.rest r.part) r.kept r.pending fed };
+    ghost IsFed = { λ r fed. IsFed r.stage (reading (P.layout nothing)) (P.rest nothing r.part) r.kept r.pending fed };
 }
 
 impl<P: Part> Reading<P> {
     /// No byte has come. Behind the end so many bytes are kept.
     pub fn new(alloc: Global, kept: usize) -> Result<Reading<P>, AllocError>
-        ensures fed { IfOk result (λ r. IsFed r.stage (reading P.layout) (P.rest r.part) r.kept r.pending []) }
+        ensures fed { IfOk result (λ r. IsFed r.stage (reading (P.layout nothing)) (P.rest nothing r.part) r.kept r.pending []) }
         ensures kept { IfOk result (λ r. r.kept ≡ kept) }
     {
         let pending = Pending::new(alloc)?;
@@ -51,13 +53,16 @@ impl<P: Part> Reading<P> {
 
     // Reads all that is there.
     fn settle(&mut self) -> Result<(), AllocError>
-        ensures fed { OnOk result ((fed : List ℕ) → IsFed self.old.stage (reading P.layout) (P.rest self.old.part) self.old.kept self.old.pending fed
-            → IsFed self.new.stage (reading P.layout) (P.rest self.new.part) self.new.kept self.new.pending fed) }
-        ensures settled { OnOk result (IsSettled self.new.stage (P.rest self.new.part) self.new.pending) }
+        ensures fed { OnOk result ((fed : List ℕ) → IsFed self.old.stage (reading (P.layout nothing)) (P.rest nothing self.old.part) self.old.kept self.old.pending fed
+            → IsFed self.new.stage (reading (P.layout nothing)) (P.rest nothing self.new.part) self.new.kept self.new.pending fed) }
+        ensures settled { OnOk result (IsSettled self.new.stage (P.rest nothing self.new.part) self.new.pending) }
         ensures kept { self.new.kept ≡ self.old.kept }
     {
         match self.stage {
-            Stage::Open => match self.part.go_on(self.alloc, &mut self.pending) {
+            Stage::Open => match self
+                .part
+                .go_on(self.alloc, Known::nothing(), &mut self.pending)
+            {
                 Ok(()) => {
                     self.stage = Stage::AtEnd;
                     Ok(())
@@ -96,8 +101,8 @@ impl<P: Part> Reading<P> {
     /// Takes the next piece, which comes behind those that were fed before. The error is want of memory alone: nothing
     /// is known of the reading then.
     pub fn feed(&mut self, piece: &[u8]) -> Result<(), AllocError>
-        ensures fed { OnOk result ((fed : List ℕ) → IsFed self.old.stage (reading P.layout) (P.rest self.old.part) self.old.kept self.old.pending fed
-            → IsFed self.new.stage (reading P.layout) (P.rest self.new.part) self.new.kept self.new.pending (fed ++ piece.now)) }
+        ensures fed { OnOk result ((fed : List ℕ) → IsFed self.old.stage (reading (P.layout nothing)) (P.rest nothing self.old.part) self.old.kept self.old.pending fed
+            → IsFed self.new.stage (reading (P.layout nothing)) (P.rest nothing self.new.part) self.new.kept self.new.pending (fed ++ piece.now)) }
         ensures kept { self.new.kept ≡ self.old.kept }
     {
         let count = self.wanted(piece.len());
@@ -107,8 +112,8 @@ impl<P: Part> Reading<P> {
 
     /// What all pieces say, one behind the other, and the bytes behind that.
     pub fn finish(mut self) -> Result<(P::Output, Pending), FieldFault>
-        ensures { (fed : List ℕ) → IsFed self.stage (reading P.layout) (P.rest self.part) self.kept self.pending fed
-            → Told P.view (reading P.layout) result self.kept fed }
+        ensures { (fed : List ℕ) → IsFed self.stage (reading (P.layout nothing)) (P.rest nothing self.part) self.kept self.pending fed
+            → Told P.view (reading (P.layout nothing)) result self.kept fed }
     {
         self.settle()?;
         match self.stage {
@@ -121,8 +126,8 @@ impl<P: Part> Reading<P> {
     /// What all pieces say, one behind the other, where nothing is behind it.
     pub fn finish_whole(self) -> Result<P::Output, FieldFault>
         requires { self.kept ≡ 1 }
-        ensures { (fed : List ℕ) → IsFed self.stage (reading P.layout) (P.rest self.part) self.kept self.pending fed
-            → Gives P.view result (whole P.layout fed) }
+        ensures { (fed : List ℕ) → IsFed self.stage (reading (P.layout nothing)) (P.rest nothing self.part) self.kept self.pending fed
+            → Gives P.view result (whole (P.layout nothing) fed) }
     {
         let (read, pending) = self.finish()?;
         if pending.len() != 0 {
@@ -134,7 +139,7 @@ impl<P: Part> Reading<P> {
 
 /// Reads a whole text. The error is its first fault from the left, or want of memory.
 pub fn read_whole<P: Part>(alloc: Global, bytes: &[u8]) -> Result<P::Output, FieldFault>
-    ensures { Gives P.view result (whole P.layout bytes.now) }
+    ensures { Gives P.view result (whole (P.layout nothing) bytes.now) }
 {
     let mut reading = Reading::<P>::new(alloc, 1)?;
     reading.feed(bytes)?;

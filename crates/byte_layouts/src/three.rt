@@ -5,6 +5,7 @@ ghost use Rattle.byte_layouts.specs.Parts.{GoesOn, both};
 
 use crate::both::go_on_both;
 use crate::fault::FieldFault;
+use crate::known::Known;
 use crate::part::Part;
 use crate::pending::Pending;
 use std::alloc::Global;
@@ -24,9 +25,9 @@ impl<A: Part, B: Part, C: Part> Part for Three<A, B, C> {
 
     ghost view = { λ x. (A.view x.0, (B.view x.1.0, C.view x.1.1)) };
 
-    ghost layout = { A.layout & (B.layout & C.layout) };
+    ghost layout = { λ known. A.layout known & (B.layout known & C.layout known) };
 
-    ghost rest = { λ s. both (A.rest s.first) (both (B.rest s.second) (C.rest s.third)) };
+    ghost rest = { λ known s. both (A.rest known s.first) (both (B.rest known s.second) (C.rest known s.third)) };
 
     ghost is_over = { λ s. A.is_over s.first && (B.is_over s.second && C.is_over s.third) };
 
@@ -38,9 +39,14 @@ impl<A: Part, B: Part, C: Part> Part for Three<A, B, C> {
         }
     }
 
-    fn go_on(&mut self, alloc: Global, pending: &mut Pending) -> Result<(), FieldFault> {
-        self.first.go_on(alloc, pending)?;
-        go_on_both(alloc, pending, &mut self.second, &mut self.third)
+    fn go_on(
+        &mut self,
+        alloc: Global,
+        known: Known,
+        pending: &mut Pending,
+    ) -> Result<(), FieldFault> {
+        self.first.go_on(alloc, known, pending)?;
+        go_on_both(alloc, known, pending, &mut self.second, &mut self.third)
     }
 
     fn finish(self) -> (A::Output, (B::Output, C::Output)) {

@@ -1,10 +1,10 @@
 -- A session at rest can be saved, and what is saved of it fits the fields of a state file.
-use Rattle.std.proofs.Common.{◌≡◌, ◌≢◌, ℕ, zero, suc, ◌<◌, ◌≤◌, ◌^◌, List, [], ◌∷◌, ◌++◌, length, map, Option, Some, None, IfSome, refl, sym, subst, arith}
+use Rattle.std.proofs.Common.{◌≡◌, ◌≢◌, ℕ, zero, suc, ◌<◌, ◌≤◌, ◌^◌, List, [], ◌∷◌, ◌++◌, length, map, Option, Some, None, IfSome, refl, sym, ap, ◌∙◌, subst, arith}
 use Rattle.std.specs.Prelude.{get_or, unwrap_or, slice_get}
 use Rattle.std.specs.Str.{bytes_eq}
 use Rattle.std.specs.List.{AllByRecursion}
 use Rattle.std.proofs.lemmas.Bool.{cond_both}
-use Rattle.std.proofs.lemmas.List.{length-map}
+use Rattle.std.proofs.lemmas.List.{length-map, length-replicate}
 use Rattle.std.proofs.lemmas.List.Concat.{flat_map-cons}
 use Rattle.file_traits.specs.Lists.{NamedBytes, find_file, bytes_of}
 use Rattle.host_lines.specs.Traffic.{Peer}
@@ -14,17 +14,17 @@ use Rattle.expect_actions.specs.declared.breaks.Break.{Break}
 use Rattle.expect_actions.specs.declared.expects.Expect.{Expect}
 use Rattle.expect_actions.specs.Sends.{Send, InTime}
 use Rattle.expect_actions.specs.Watch.{WatchState}
-use Rattle.nova_machine.specs.Machine.{MachineState, place_of as line_place}
+use Rattle.nova_machine.specs.Machine.{MachineState, line_count, console_place, place_of as line_place}
 use Rattle.nova_machine.specs.Seen.{erased, attached_in}
 use Rattle.nova_machine.specs.Valid.{IsByteName, HasByteName, ValidBreak, ValidExpect, ValidWatch, IsPort, ValidLine}
 use Rattle.saved_files.specs.declared.taking.UnitPlace.{UnitPlace}
 use Rattle.saved_session.specs.Parts.{FilePart}
 use Rattle.state_text.specs.Laws.{HasWidths}
-use Rattle.state_text.proofs.LooseLaws.{FileHasWidths, BreakHasWidths, ExpectHasWidths, SendHasWidths, session_widths}
+use Rattle.state_text.proofs.LooseLaws.{FileHasWidths, BreakHasWidths, ExpectHasWidths, SendHasWidths, PortsHaveWidths, session_widths}
 use Rattle.saved_session.specs.Valid.{BreaksFit, ExpectsFit, WatchFits, Fits}
 use Rattle.state_transfer.specs.PutBack.{IsIdleLine}
 use Rattle.saved_files.specs.Taking.{unit_at, file_places, saved_file, saved_at, saved_files}
-use Rattle.state_transfer.specs.Session.{saved_machine, port_number, port_of, saved_port}
+use Rattle.state_transfer.specs.Session.{saved_machine, port_number, port_of, saved_ports}
 use Rattle.saved_session.specs.SavedWatch.{saved_break, saved_expect, saved_send, saved_watch}
 use Rattle.state_laws.proofs.SavedLemmas.{machine-valid}
 use Rattle.state_laws.proofs.SavedFileLemmas.{file-widths, few-saved}
@@ -165,9 +165,10 @@ low-at zero (line ∷ lines) all = by line.port all.0.port
     by (Some port) is = is.1
 low-at (suc place) (line ∷ lines) all = low-at place lines all.1
 
-port-low : (lines : List (LineOf Peer)) → AllByRecursion ValidLine lines → saved_port lines < 2 ^ 16
-unfolding saved_port
-port-low lines all = low-at (line_place 0) lines all
+ports-low : (lines : List (LineOf Peer)) → AllByRecursion ValidLine lines → PortsHaveWidths (saved_ports lines)
+unfolding saved_ports
+ports-low lines all =
+    record { tti1 = low-at (line_place 0) lines all; qty = low-at (line_place 1) lines all; console = low-at console_place lines all }
 
 idle-line : (line : LineOf Peer) → ValidLine line → HasNobody line → IsIdleLine line
 idle-line line is none = record { nobody = is.nothing none; port = not-0 line.port is.port }
@@ -201,7 +202,7 @@ unfolding saved_machine saved_watch
 widths s files is parts =
     let valid = is.valid in
     session_widths (saved_among files s) (machine-valid s.machine valid.machine is.time valid.taken is.machine.units) (fits s files is parts)
-    (every-gives FitsPart FileHasWidths (saved_files files (attached_in s.machine) file_places) (λ f x. x.widths) parts) (port-low s.lines valid.lines)
+    (every-gives FitsPart FileHasWidths (saved_files files (attached_in s.machine) file_places) (λ f x. x.widths) parts) (ports-low s.lines valid.lines)
     (record {
       breaks = breaks-widths s.watch.breaks.list valid.watch.each;
       expects = expects-widths s.watch.expects.list valid.watch.texts;
@@ -218,13 +219,13 @@ savable s files rest all =
       can = record {
         memory = valid.machine.memory;
         size = valid.machine.size;
-        rule = valid.machine.rule;
         places = valid.machine.places;
         seen = erased-same s.machine is.machine;
         copy = rest.copy;
         written = rest.written;
         watch = rest.watch;
-        others = is.ports.others;
+        many = is.count ∙ ap suc (length-replicate (line_count s.machine.units) _);
+        numbered = is.numbered;
         idle = idle-lines s.lines valid.lines rest.nobody;
       };
       fits = fits s files is parts;

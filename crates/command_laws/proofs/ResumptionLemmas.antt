@@ -1,6 +1,6 @@
 -- What SAVE leaves of a session, and what RESTORE puts in place of the one that was saved.
-use Rattle.std.proofs.Common.{◌≡◌, ℕ, zero, suc, ◌<◌, Bool, true, false, List, [], ◌∷◌, ◌++◌, length, drop, Option, Some, None, IsTrue, Result, Ok, Err, refl, ap, sym, ◌∙◌, subst, arith, if◌then◌else◌}
-use Rattle.std.specs.Prelude.{nat_lt, nat_le, ◌&&◌, is_some, IsSome, unwrap_or}
+use Rattle.std.proofs.Common.{◌≡◌, ℕ, zero, suc, ◌<◌, Bool, true, false, List, [], ◌∷◌, ◌++◌, length, map, drop, inl, inr, Option, Some, None, IsTrue, Result, Ok, Err, refl, ap, sym, ◌∙◌, subst, arith, if◌then◌else◌}
+use Rattle.std.specs.Prelude.{nat_lt, nat_le, ◌&&◌, slice_get, is_some, IsSome, unwrap_or}
 use Rattle.std.specs.Str.{bytes_eq}
 use Rattle.std.proofs.lemmas.List.{length-map}
 use Rattle.file_traits.specs.declared.files.FileCall.{FileCall}
@@ -19,19 +19,21 @@ use Rattle.file_commands.specs.declared.note.Subject.TheVariants as subject
 use Rattle.file_commands.specs.Notes.{CommandNote}
 use Rattle.whole_files.specs.Whole.{WholeSaid, WholeIs, NotThere, TooLong, CallFailed, longest_file, closed, bytes_act, open_act, found_act, whole_act}
 use Rattle.whole_files.specs.Writing.{write_act}
+use Rattle.nova_machine.specs.Machine.{console_place, place_of as line_place}
 use Rattle.nova_machine.specs.Seen.{attached_in}
 use Rattle.nova_machine.specs.Valid.{CopyIsFile}
 use Rattle.state_text.specs.declared.fault.StateFault.{StateFault}
 use Rattle.saved_files.specs.declared.taking.UnitPlace.{UnitPlace}
-use Rattle.state_transfer.specs.Listening.{wants_port}
+use Rattle.saved_session.specs.declared.saved.SavedPorts.{SavedPorts}
+use Rattle.state_transfer.specs.Ports.{row_from, how_many, multiplexer_lines, assigned, ports_wanted}
 use Rattle.saved_session.specs.Parts.{State, FilePart}
 use Rattle.saved_session.specs.Ranges.{kind_at}
-use Rattle.state_transfer.specs.PutBack.{machine_from, lines_from, put_back}
+use Rattle.state_transfer.specs.PutBack.{misses_unit, machine_from, lines_from, put_back}
 use Rattle.saved_session.specs.SavedWatch.{watch_from}
 use Rattle.state_text.specs.Reading.{reading}
 use Rattle.saved_files.specs.Putting.{FileRefusal, unit_of, is_only_read, mode_of, with_file as with_part, behind_attaching, refusal_of, at_unit, first_of, first_refused}
 use Rattle.saved_files.specs.Taking.{unit_at, place_of, file_places, saved_file, saved_at, saved_files, undigested, failing_first, first_undigested, unless_unflushed, files_flushed, first_unsaved}
-use Rattle.state_transfer.specs.Session.{saved_machine, saved_port, saved}
+use Rattle.state_transfer.specs.Session.{saved_machine, saved_ports, saved}
 use Rattle.saved_session.specs.SavedWatch.{saved_watch}
 use Rattle.state_text.specs.Text.{text}
 use Rattle.state_laws.proofs.SavedValidLemmas.{saved-is-valid}
@@ -39,19 +41,17 @@ use Rattle.state_laws.proofs.PutBackLemmas.{files-back, saving-puts-back}
 use Rattle.scp_parser.specs.Command.{Save, Restore}
 use Rattle.command_session.specs.declared.next.Next.TheVariants.{Go}
 use Rattle.command_session.specs.declared.fault.CommandFault.TheVariants.{AlreadyAttached}
-use Rattle.command_session.specs.LineEffects.{listen_answer}
 use Rattle.command_session.specs.Live.{Live, standing}
 use Rattle.command_session.specs.DiskFile.{is_of_both, is_left_by_disk, is_by_disk_at, disk_alone}
 use Rattle.command_session.specs.Reply.{Reply, refused}
 use Rattle.command_session.specs.WholeCalls.{whole_calls}
-use Rattle.state_commands.specs.StateEffects.{unit_claim, flushed_with, save_by, save_reply, heard_live, ported_back, restored_by, restored_as, restored_from, restore_reply}
+use Rattle.state_commands.specs.StateEffects.{unit_claim, flushed_with, save_by, save_reply, unless_failed, listening_each, listened_back, restored_by, unless_missing, restored_as, restored_from, restore_reply}
 use Rattle.command_session.specs.Occupied.{is_occupied}
 use Rattle.scp_commands.specs.Effect.{effect}
 use Rattle.command_laws.proofs.AtRest.{savable}
-use Rattle.command_laws.proofs.OwnLines.{two-lines}
 use Rattle.state_text.proofs.LooseLaws.{valid_widths}
-use Rattle.state_text.proofs.OwnTexts.{read_own}
-use Rattle.command_laws.specs.Resumption.{done_with, left_by_save, ahead_behind, continued, saved_among, HoldsSaved, IsSavable, IsRestored, RestorePutsBack}
+use Rattle.state_text.proofs.OwnTexts.{read_own, read_own_first}
+use Rattle.command_laws.specs.Resumption.{done_with, left_by_save, ahead_behind, ports_saved, continued, saved_among, HoldsSaved, IsSavable, IsLike, IsRestored, RestorePutsBack}
 
 -- ---- a file that is read whole
 
@@ -99,20 +99,39 @@ of-whole (call ∷ failing) name files = of-found (call ∷ failing) (find_file 
 
 -- ---- RESTORE
 
--- what comes to be where a port is asked for, and this is answered
-abbrev heard_reply : LineAnswer → Ahead → ℕ → State → Live → Reply
-heard_reply a ahead used v live = record { made = []; answer = listen_answer a; after = standing used (record (heard_live a v live) { ahead = ahead }) }
+-- what comes to be where ports are listened on, and that is done
+all-heard : (ports : List ℕ) (ahead : Ahead) (used : ℕ) (v : State) (live : Live) → (listened_back (listening_each ports ahead) used v live).answer ≡ Ok Go
+    → listened_back (listening_each ports ahead) used v live ≡ done_with used (record (put_back v live) { ahead = ahead_behind ports ahead })
+unfolding listening_each
+all-heard [] ahead used v live done = refl
+all-heard (port ∷ ports) ahead used v live done = by (listening ahead).answer (all-heard ports (listening ahead).ahead used v live) done
+  where
+    after : Reply
+    after = done_with used (record (put_back v live) { ahead = ahead_behind ports (listening ahead).ahead })
 
-heard : (a : LineAnswer) (ahead : Ahead) (used : ℕ) (v : State) (live : Live) → listen_answer a ≡ Ok Go → heard_reply a ahead used v live ≡ done_with used (record (put_back v live) { ahead = ahead })
-heard Failed ahead used v live done = absurd (cc)
-heard other ahead used v live done = refl
+    by : (a : LineAnswer)
+        → ((listened_back (listening_each ports (listening ahead).ahead) used v live).answer ≡ Ok Go → listened_back (listening_each ports (listening ahead).ahead) used v live ≡ after)
+        → (listened_back (unless_failed a (listening ahead).ahead (listening_each ports)) used v live).answer ≡ Ok Go
+        → listened_back (unless_failed a (listening ahead).ahead (listening_each ports)) used v live ≡ after
+    by Failed more done = absurd (cc)
+    by other more done = more done
 
-ported : (port : ℕ) (lines : List (LineOf Peer)) (used : ℕ) (v : State) (live : Live) → 1 < length lines → (ported_back (wants_port port lines) used v live).answer ≡ Ok Go
-    → ported_back (wants_port port lines) used v live ≡ done_with used (record (put_back v live) { ahead = ahead_behind port live.ahead })
-ported zero lines used v live more done = refl
-ported (suc port) [] used v live more done = absurd (omega (arith, more))
-ported (suc port) (console ∷ []) used v live more done = absurd (omega (arith, more))
-ported (suc port) (console ∷ line ∷ others) used v live more done = heard (listening live.ahead).answer (listening live.ahead).ahead used v live done
+-- as many lines are there at the same places
+there-same : {P Q : Type 0} (place : ℕ) (lines : List (LineOf P)) (others : List (LineOf Q)) → length lines ≡ length others → is_some (slice_get lines place) ≡ is_some (slice_get others place)
+there-same place [] [] same = refl
+there-same place [] (k ∷ others) same = absurd (omega (arith, same))
+there-same place (l ∷ lines) [] same = absurd (omega (arith, same))
+there-same zero (l ∷ lines) (k ∷ others) same = refl
+there-same (suc place) (l ∷ lines) (k ∷ others) same = there-same place lines others (omega (arith, same))
+
+wanted-same : {P Q : Type 0} (p : SavedPorts) (lines : List (LineOf P)) (others : List (LineOf Q)) → length lines ≡ length others → ports_wanted p lines ≡ ports_wanted p others
+unfolding assigned
+wanted-same p lines others same =
+    let one = there-same (line_place 0) lines others same in
+    let last = there-same (line_place multiplexer_lines) lines others same in
+    λ i. map (λ (g : ℕ × ℕ). g.1) (row_from (how_many p.tti1 1 (one i)) (line_place 0) p.tti1
+    ++ (row_from (how_many p.qty multiplexer_lines (last i)) (line_place 1) p.qty
+    ++ row_from (how_many p.console 1 true) console_place p.console))
 
 -- the first file of a session in which the disk has one is the disk's
 first-file : (files : List NamedBytes) (attached : List (Option Attachment)) (a : Attachment) → attachment_at attached disk_unit ≡ Some a
@@ -158,7 +177,7 @@ kept-there fails force a then_bytes files none =
     let f = saved_file (place_of 0 0) a then_bytes in
     mode-there fails a.name files force f (bytes_of files a.name) (is_only_read f) none
 
-module _ (live s : Live) (then_files : List NamedBytes) (name : List ℕ) (holds : HoldsSaved live.files then_files name s) (same : live.files ≡ s.files) (many : length live.lines ≡ length s.lines) where
+module _ (live s : Live) (then_files : List NamedBytes) (name : List ℕ) (holds : HoldsSaved live.files then_files name s) (like : IsLike live s) where
   abbrev what : State
   what = saved_among then_files s
 
@@ -168,40 +187,47 @@ module _ (live s : Live) (then_files : List NamedBytes) (name : List ℕ) (holds
   twelve : length (attached_in s.machine) ≡ file_units
   twelve = length-map s.machine.slots _ ∙ can.can.places
 
-  -- the console line is there, and line 0
-  more : 1 < length live.lines
-  more =
-      let two : length live.lines ≡ 2 = many ∙ holds.rest.session.count ∙ two-lines s.machine.units holds.rest.session.machine.units in
-      omega (arith, two)
-
   -- what is attached does not depend on the bytes of files
   among : put_back what live ≡ put_back (saved s) live
   among =
       ap (λ (attached : List (Option Attachment)). record live {
-        machine = machine_from (saved_machine s.machine) attached live.files;
+        machine = machine_from (saved_machine s.machine) live.machine.units attached live.files;
         watch = watch_from (saved_watch s.watch);
-        lines = lines_from (saved_port s.lines) live.lines;
+        lines = lines_from (saved_ports s.lines) live.lines;
       })
       (files-back then_files (attached_in s.machine) twelve ∙ sym (files-back s.files (attached_in s.machine) twelve))
 
-  in-place : record (put_back what live) { ahead = ahead_behind (saved_port s.lines) live.ahead } ≡ continued s live
+  in-place : record (put_back what live) { ahead = ahead_behind (ports_saved s) live.ahead } ≡ continued s live
   in-place =
-      ap (λ (l : Live). record l { ahead = ahead_behind (saved_port s.lines) live.ahead }) (among ∙ saving-puts-back.back s live can.can same many)
-      ∙ ap (λ (files : List NamedBytes). record s { keys = live.keys; files = files; ahead = ahead_behind (saved_port s.lines) live.ahead }) (sym same)
+      ap (λ (l : Live). record l { ahead = ahead_behind (ports_saved s) live.ahead }) (among ∙ saving-puts-back.back s live can.can like.files like.kinds like.many)
+      ∙ ap (λ (files : List NamedBytes). record s { keys = live.keys; files = files; ahead = ahead_behind (ports_saved s) live.ahead }) (sym like.files)
+
+  -- it is the only session that its bytes say
+  only-what : (v : State) → reading (bytes_of live.files name) ≡ Ok v → v ≡ what
+  only-what v read = elim holds.bytes [
+    | inl now ↦ read_own what v can.fits can.widths (sym (ap reading now) ∙ read)
+    | inr first ↦ read_own_first what v can.fits can.widths first.0 (sym (ap reading first.1) ∙ read)
+  ]
 
   by-files : (o : Option (UnitName × FileRefusal)) (used : ℕ) → (restored_by o used what live).answer ≡ Ok Go → restored_by o used what live ≡ done_with used (continued s live)
   by-files (Some refusal) used done = absurd (cc)
-  by-files None used done = ported what.port live.lines used what live more done ∙ ap (done_with used) in-place
+  by-files None used done =
+      all-heard (ports_wanted (saved_ports s.lines) live.lines) live.ahead used what live done
+      ∙ ap (λ (ports : List ℕ). done_with used (record (put_back what live) { ahead = ahead_behind ports live.ahead })) (wanted-same (saved_ports s.lines) live.lines s.lines like.many)
+      ∙ ap (done_with used) in-place
 
   abbrev Puts : Reply → ℕ → Type 0
   Puts reply used = reply.answer ≡ Ok Go → reply ≡ done_with used (continued s live)
 
+  found-puts : (b : Bool) (reply : Reply) (used : ℕ) → Puts reply used → Puts (unless_missing b used live reply) used
+  found-puts true reply used puts = λ done. absurd (cc)
+  found-puts false reply used puts = puts
+
   by-state : (bytes : List ℕ) → bytes ≡ bytes_of live.files name → (force : Bool) (used : ℕ) (notes : List CommandNote) (r : Result State StateFault) → reading bytes ≡ r → Puts (restored_as force used notes r live) used
   by-state bytes is force used notes (Err fault) read = λ done. absurd (cc)
   by-state bytes is force used notes (Ok v) read =
-      let same : v ≡ what = read_own what v can.fits can.widths (ap reading (sym (is ∙ holds.bytes)) ∙ read) in
-      subst (λ (w : State). Puts (restored_as force used notes (Ok w) live) used) (sym same)
-      (by-files (first_refused (unit_claim live.machine.time notes) force what.files no_attachments live.files) used)
+      subst (λ (w : State). Puts (restored_as force used notes (Ok w) live) used) (sym (only-what v (ap reading (sym is) ∙ read)))
+      (found-puts (misses_unit what.machine live.machine.units) _ used (by-files (first_refused (unit_claim live.machine.time notes) force what.files no_attachments live.files) used))
 
   by-said : (said : WholeSaid) (used : ℕ) → IsOf (bytes_of live.files name) said → (force : Bool) (notes : List CommandNote) → Puts (restored_from force (said, used) notes live) used
   unfolding IsOf
@@ -236,13 +262,17 @@ module _ (live s : Live) (then_files : List NamedBytes) (name : List ℕ) (holds
   abbrev Attached : Bool → List CommandNote → Type 0
   Attached force notes = first_refused (unit_claim live.machine.time notes) force what.files no_attachments live.files ≡ None
 
+  found-answer : (b : Bool) (reply : Reply) (used : ℕ) → (unless_missing b used live reply).answer ≡ Ok Go → reply.answer ≡ Ok Go
+  found-answer true reply used done = absurd (cc)
+  found-answer false reply used done = done
+
   state-attached : (bytes : List ℕ) → bytes ≡ bytes_of live.files name → (force : Bool) (used : ℕ) (notes : List CommandNote) (r : Result State StateFault) → reading bytes ≡ r
       → (restored_as force used notes r live).answer ≡ Ok Go → Attached force notes
   state-attached bytes is force used notes (Err fault) read = λ done. absurd (cc)
   state-attached bytes is force used notes (Ok v) read =
-      let same : v ≡ what = read_own what v can.fits can.widths (ap reading (sym (is ∙ holds.bytes)) ∙ read) in
-      subst (λ (w : State). (restored_as force used notes (Ok w) live).answer ≡ Ok Go → Attached force notes) (sym same)
-      (by-attached (first_refused (unit_claim live.machine.time notes) force what.files no_attachments live.files) used)
+      subst (λ (w : State). (restored_as force used notes (Ok w) live).answer ≡ Ok Go → Attached force notes) (sym (only-what v (ap reading (sym is) ∙ read)))
+      (λ done. by-attached (first_refused (unit_claim live.machine.time notes) force what.files no_attachments live.files) used
+      (found-answer (misses_unit what.machine live.machine.units) _ used done))
 
   said-attached : (said : WholeSaid) (used : ℕ) → IsOf (bytes_of live.files name) said → (force : Bool) (notes : List CommandNote) → (restored_from force (said, used) notes live).answer ≡ Ok Go
       → (left : List CommandNote) × Attached force left
@@ -279,7 +309,7 @@ module _ (live s : Live) (then_files : List NamedBytes) (name : List ℕ) (holds
   disk-left a (Some bytes) at is there =
       let disk = s.machine.disk in
       let copy : CopyIsFile (Some a) disk s.files = subst (λ (o : Option Attachment). CopyIsFile o disk s.files) at holds.rest.copy in
-      let held : disk.bytes ≡ bytes = copy holds.rest.written ∙ ap (λ (files : List NamedBytes). bytes_of files a.name) (sym same) ∙ ap (λ (o : Option (List ℕ)). unwrap_or o []) is in
+      let held : disk.bytes ≡ bytes = copy holds.rest.written ∙ ap (λ (files : List NamedBytes). bytes_of files a.name) (sym like.files) ∙ ap (λ (o : Option (List ℕ)). unwrap_or o []) is in
       ap (λ (b : Bool). if b then nat_le (length (bytes_of live.files a.name)) (length bytes) && nat_le (length bytes) (length disk.bytes) && is_of_both bytes (bytes_of live.files a.name) disk.bytes
       else bytes_eq bytes disk.bytes) holds.rest.written
       ∙ ap (λ (l : List ℕ). bytes_eq bytes l) held ∙ test-same bytes
@@ -359,8 +389,8 @@ is-held live name = made-so (flushed_with None live).files name (text (saved (fl
 pub restore-puts-back : RestorePutsBack
 restore-puts-back = record {
   savable = savable;
-  restored = λ limit notes live s force name then_files used is holds same line. is-restored live s then_files name holds same line limit notes force used is;
-  alone = λ limit notes live s force name then_files used is holds same line. is-alone live s then_files name holds same line limit notes force used is;
+  restored = λ limit notes live s force name then_files used is holds like. is-restored live s then_files name holds like limit notes force used is;
+  alone = λ limit notes live s force name then_files used is holds like. is-alone live s then_files name holds like limit notes force used is;
   unoccupied = is-unoccupied;
   standard = λ s is. (saved-is-valid.fits s is, valid_widths (saved s) (saved-is-valid.valid s is));
   saved = is-saved;

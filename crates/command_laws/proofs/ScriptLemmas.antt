@@ -24,6 +24,7 @@ use Rattle.command_session.specs.declared.next.Next.TheVariants.{Go, Do, Exit}
 use Rattle.command_session.specs.Live.{Live}
 use Rattle.command_session.specs.Reply.{Answer, Reply}
 use Rattle.command_session.specs.RunEffects.{run_answer, run_failure, ran, address_fits, started, run_from, stepped, step_of}
+use Rattle.terminal_ports.specs.Ports.{is_taken}
 use Rattle.command_session.specs.LineEffects.{terminal_place, terminal_line, is_port, listen_answer, attach_line, attach_port_reply, with_port, disconnect_reply}
 use Rattle.command_session.specs.FileEffects.{lacks_unit, mode_of, attach_answer, attach_reply}
 use Rattle.command_session.specs.FileEffects.{detach_all_reply, emptied_all, kept_answer}
@@ -85,7 +86,7 @@ listen_answer-none answer = tt
 attach_line-none : (line : Option (LineOf Peer)) (place port : ℕ) (live : Live) → NoScript (attach_line line place port live).answer
 attach_line-none None place port live = tt
 attach_line-none (Some line) place port live =
-    none-if (is_some line.port) _ _ tt (none-if (is_port port) _ _ (listen_answer-none (listening live.ahead).answer) tt)
+    none-if (is_some line.port) _ _ tt (none-if (is_port port) _ _ (none-if (is_taken port live.lines) _ _ tt (listen_answer-none (listening live.ahead).answer)) tt)
 
 pub attach_port-none : (live : Live) (port : ℕ) → NoScript (attach_port_reply live port).answer
 unfolding attach_port_reply

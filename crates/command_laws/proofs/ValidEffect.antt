@@ -72,14 +72,14 @@ use Rattle.command_session.specs.FileEffects.{filed_in, emptied_all, left_by, un
 use Rattle.host_lines.specs.Traffic.{Answer as LineAnswer, Peer, Replied, Ahead, Script, Answers, Quiet, Failed, replied, begun, listening}
 use Rattle.telnet_lines.specs.Line.{LineOf, unconnected}
 use Rattle.command_session.specs.LineEffects.{is_terminal, terminal_place, terminal_line, ported, closed, closed_by, unported, hung, hung_by, hung_up, is_port, listen_answer, listen_lines, listen_with, attach_line, attach_port_reply}
-use Rattle.command_session.specs.LinesLeft.{AreSessionLines}
-use Rattle.command_session.proofs.PortLemmas.{session-by, session-unported, session-hung, session-ported, session-free}
-use Rattle.terminal_ports.specs.Ports.{changed_at, HaveNone}
+use Rattle.command_session.proofs.PortLemmas.{apart-unported, apart-hung, apart-ported, apart-free}
+use Rattle.terminal_ports.specs.Ports.{changed_at, is_taken, HavePortsApart, HaveNone}
+use Rattle.terminal_ports.proofs.PortsApart.{apart-by}
 use Rattle.command_laws.proofs.OwnLines.{standard-many}
 use Rattle.command_session.specs.LineEffects.{with_port, detach_port_reply, disconnect_reply, show_line}
 use Rattle.plain_commands.specs.ShowEffects.{show_reply}
 use Rattle.command_session.specs.ExitEffects.{exit_reply}
-use Rattle.plain_commands.specs.SetEffects.{sized, set_size_reply}
+use Rattle.plain_commands.specs.SetEffects.{sized, ruled, set_size_reply, set_autobit_reply}
 use Rattle.plain_commands.specs.ScriptEffects.{test_answer, assert_answer, echo_reply, assert_reply, goto_reply}
 use Rattle.host_commands.specs.DoEffects.{do_answer, do_reply}
 use Rattle.command_session.specs.WholeCalls.{whole_calls, write_calls, wrote_answer}
@@ -95,7 +95,7 @@ use Rattle.host_commands.proofs.FileKinds.{positioned-kinds}
 use Rattle.command_session.proofs.SeenLemmas.{attached-with}
 use Rattle.command_session.proofs.CloseLemmas.{none-other}
 use Rattle.command_laws.proofs.ValidWatch.{quoted-bytes, break-added, break-removed, breaks-removed, expect-added, expects-removed, sends-added, sends-removed}
-use Rattle.command_laws.proofs.ValidMachines.{sized-valid, reset-valid, reset-leaves, started-valid, started-leaves, GivesWhole, whole-bytes, loaded-valid, loaded-leaves, written-files}
+use Rattle.command_laws.proofs.ValidMachines.{sized-valid, ruled-valid, reset-valid, reset-leaves, started-valid, started-leaves, GivesWhole, whole-bytes, loaded-valid, loaded-leaves, written-files}
 use Rattle.command_laws.proofs.ValidMachines.{deposited-marks, reset-marks, started-marks, loaded-marks}
 use Rattle.command_laws.proofs.ValidFiles.{Fits, attached-files, flushed-files, attached-fits, attached-valid, detached-valid, filed-valid, names-seen, IsFiled, emptied-filed}
 use Rattle.command_laws.proofs.ValidCopies.{HoldsAt, HoldsNone, holds-same, holds-copy, holds-flushed, holds-attached, holds-detached, holds-emptied, copy-tested, copy-new, copy-gone}
@@ -175,7 +175,6 @@ flushed-machine : (m : MachineState) → ValidMachine m → ValidMachine (flushe
 flushed-machine m is = record {
   memory = is.memory;
   size = is.size;
-  rule = is.rule;
   cpu = is.cpu;
   mask = is.mask;
   switches = is.switches;
@@ -188,7 +187,7 @@ flushed-machine m is = record {
 -- ---- replies
 
 -- with other lines
-lined-live : (live : Live) (lines : List (LineOf Peer)) → ValidLive live → AllByRecursion ValidLine lines → length lines ≡ length live.lines → AreSessionLines lines → ValidLive (record live { lines = lines })
+lined-live : (live : Live) (lines : List (LineOf Peer)) → ValidLive live → AllByRecursion ValidLine lines → length lines ≡ length live.lines → HavePortsApart lines → ValidLive (record live { lines = lines })
 lined-live live lines is all count ports = record {
   valid = record {
     machine = is.valid.machine;
@@ -356,7 +355,7 @@ stands-ran notes step count live is =
       time = time;
       machine = program-machine s.machine t.machine is.machine shape.kinds shape.slots shape.aside shape.own;
       count = shape.count ∙ is.count ∙ standard-many s.machine.units t.machine.units is.machine.units (shape.kinds ∙ is.machine.units);
-      ports = session-by s.lines t.lines shape.ports is.ports;
+      ports = apart-by s.lines t.lines shape.ports is.ports;
     }
 
 -- a run from another machine with the same files
@@ -513,13 +512,13 @@ port-low port is =
     let most = leb-true port 65535 both.1 in
     (leb-true 1 port both.0, omega (arith, most))
 
-not-zero : (port : ℕ) → is_port port ≡ true → Some port ≢ Some 0
-not-zero port is none =
-    let low : is_port 0 ≡ true = subst (λ (n : ℕ). is_port n ≡ true) (same_Some port 0 none) is in absurd (cc)
+not-zero : (port : ℕ) → is_port port ≡ true → port ≢ 0
+not-zero port is none = let low : is_port 0 ≡ true = subst (λ (n : ℕ). is_port n ≡ true) none is in absurd (cc)
 
 -- a port is listened on, or was not
-stands-listen_with : (said : Replied) (port : ℕ) (live : Live) → is_port port ≡ true → ValidAhead said.ahead → ValidLive live → Stands live (listen_with said terminal_place port live)
-stands-listen_with said port live low valid is = by said.answer
+stands-listen_with : (said : Replied) (port : ℕ) (live : Live) → is_port port ≡ true → is_taken port live.lines ≡ false → ValidAhead said.ahead → ValidLive live
+    → Stands live (listen_with said terminal_place port live)
+stands-listen_with said port live low free valid is = by said.answer
   where
     by : (answer : LineAnswer) → Stands live (record {
       made = [];
@@ -535,7 +534,7 @@ stands-listen_with said port live low valid is = by said.answer
       valid = record {
         after = lined-live (record live { ahead = said.ahead }) (ported terminal_place (Some port) live.lines) (ahead-live live said.ahead is valid)
             (valid-ported (Some port) live.lines (port-low port low) is.valid.lines) (many-ported (Some port) live.lines)
-            (session-ported (Some port) live.lines (not-zero port low) is.ports);
+            (apart-ported port live.lines (not-zero port low) free is.ports);
         made = λ at h. absurd h;
         script = tt;
       };
@@ -552,10 +551,11 @@ stands-attach_port live port is = by (terminal_line live.lines)
     by (Some line) =
         stands-if (is_some line.port) live _ _ (λ _. stands-refused _ live is)
         (λ _. stands-if (is_port port) live _ _
-        (λ low. stands-listen_with (listening live.ahead) port live low (valid-listening live.ahead is.valid.ahead) is)
+        (λ low. stands-if (is_taken port live.lines) live _ _ (λ _. stands-refused _ live is)
+        (λ free. stands-listen_with (listening live.ahead) port live low free (valid-listening live.ahead is.valid.ahead) is))
         (λ _. stands-refused _ live is))
 
-stands-with_port : (line : Option (LineOf Peer)) (lines : List (LineOf Peer)) (live : Live) → AllByRecursion ValidLine lines → length lines ≡ length live.lines → AreSessionLines lines → ValidLive live
+stands-with_port : (line : Option (LineOf Peer)) (lines : List (LineOf Peer)) (live : Live) → AllByRecursion ValidLine lines → length lines ≡ length live.lines → HavePortsApart lines → ValidLive live
     → Stands live (with_port line (goes (record live { lines = lines })) live)
 stands-with_port None lines live all count ports is = stands-refused _ live is
 stands-with_port (Some line) lines live all count ports is =
@@ -565,12 +565,12 @@ stands-with_port (Some line) lines live all count ports is =
 stands-detach_port : (live : Live) → ValidLive live → Stands live (detach_port_reply live)
 unfolding detach_port_reply
 stands-detach_port live is = stands-with_port (terminal_line live.lines) (unported terminal_place live.lines) live (valid-unported live.lines is.valid.lines) (many-unported live.lines)
-    (session-unported terminal_place live.lines is.ports) is
+    (apart-unported terminal_place live.lines is.ports) is
 
 stands-disconnect : (live : Live) → ValidLive live → Stands live (disconnect_reply live)
 unfolding disconnect_reply
 stands-disconnect live is = stands-with_port (terminal_line live.lines) (hung_up terminal_place live.lines) live (valid-hung live.lines is.valid.lines) (many-hung live.lines)
-    (session-hung terminal_place live.lines is.ports) is
+    (apart-hung terminal_place live.lines is.ports) is
 
 -- all units lose their files, and then that comes
 filed-live : (live : Live) → ValidLive live → IsFiled (filed_in live)
@@ -596,7 +596,7 @@ stands-emptied next notes live gives is = by-keeper e.kept refl
                 lined-live (left_by None e.left live) (unported terminal_place live.lines)
                 (changed-live live m live.watch e.left.files is (filed-valid live.machine e.left.attached e.left.disk is.valid.machine filed.places filed.names filed.disk) refl refl
                 (program-filed live.machine m e.left.attached is.machine refl refl refl refl) is.valid.watch filed.files)
-                (valid-unported live.lines is.valid.lines) (many-unported live.lines) (session-unported terminal_place live.lines is.ports);
+                (valid-unported live.lines is.valid.lines) (many-unported live.lines) (apart-unported terminal_place live.lines is.ports);
             made = λ at h. absurd h;
             script = gives;
           };
@@ -684,6 +684,11 @@ stands-set_size live k is =
     stands-if (fits_size k) live _ _
     (λ fits. stands-goes live _ (machine-live live (sized live.machine k) is (sized-valid live.machine k is.valid.machine fits) (record { time = refl; taken = refl; kinds = refl; slots = refl; disk = refl; lines = refl }) refl) refl refl)
     (λ _. stands-refused _ live is)
+
+stands-set_autobit : (live : Live) (before : Bool) → ValidLive live → Stands live (set_autobit_reply live before)
+unfolding set_autobit_reply
+stands-set_autobit live before is =
+    stands-goes live _ (machine-live live (ruled live.machine before) is (ruled-valid live.machine before is.valid.machine) (record { time = refl; taken = refl; kinds = refl; slots = refl; disk = refl; lines = refl }) refl) refl refl
 
 stands-show : (live : Live) (subject : Shown) → ValidLive live → Stands live (show_reply live subject)
 unfolding show_reply
@@ -863,7 +868,7 @@ some-from : (port : ℕ) → port_from port ≢ Some 0
 some-from zero none = absurd (cc)
 some-from (suc port) none = absurd (omega (arith, same_Some (suc port) 0 none))
 
-session-from : (port : ℕ) (lines : List (LineOf Peer)) → AreSessionLines (lines_from port lines)
+session-from : (port : ℕ) (lines : List (LineOf Peer)) → HavePortsApart (lines_from port lines)
 session-from port lines =
     session-ported (port_from port) (map (λ (line : LineOf Peer). unconnected None) lines) (some-from port)
     (session-free (map (λ (line : LineOf Peer). unconnected None) lines) (none-free lines))
@@ -960,6 +965,7 @@ stands-effect limit notes live (request.Attach option unit name) is kept bytes =
 stands-effect limit notes live (request.AttachPort kind port) is kept bytes = stands-attach_port live port is
 stands-effect limit notes live (request.Detach unit) is kept bytes = stands-detach_where notes live unit kept is
 stands-effect limit notes live (request.SetSize k) is kept bytes = stands-set_size live k is
+stands-effect limit notes live (request.SetAutobit before) is kept bytes = stands-set_autobit live before is
 stands-effect limit notes live (request.Disconnect kind) is kept bytes = stands-disconnect live is
 stands-effect limit notes live (request.Show subject) is kept bytes = stands-show live subject is
 stands-effect limit notes live (request.Do echo strict name arguments) is kept bytes = stands-do notes live echo strict name is

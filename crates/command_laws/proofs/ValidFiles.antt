@@ -208,7 +208,6 @@ pub attached-valid : (said : AttachSaid) (mode : AttachMode) (unit : UnitName) (
 attached-valid (Attached count) mode unit name bytes m drive low named new is = record {
   memory = is.memory;
   size = is.size;
-  rule = is.rule;
   cpu = is.cpu;
   mask = is.mask;
   switches = is.switches;
@@ -236,7 +235,6 @@ pub filed-valid : (m : MachineState) (attached : List (Option Attachment)) (disk
 filed-valid m attached disk is places names bytes = record {
   memory = is.memory;
   size = is.size;
-  rule = is.rule;
   cpu = is.cpu;
   mask = is.mask;
   switches = is.switches;

@@ -12,9 +12,9 @@ use Rattle.whole_files.specs.Writing.{FailingCall, WriteSaid, AllWritten, WriteF
 use Rattle.binary_load.specs.declared.faults.LoadFault.{LoadFault}
 use Rattle.binary_load.specs.Tape.{Tape, put_all}
 use Rattle.unit_list.proofs.Resets.{reset-kinds}
-use Rattle.binary_load.proofs.StoreLemmas.{put_all-size, put_all-rule}
+use Rattle.binary_load.proofs.StoreLemmas.{put_all-size}
 use Rattle.binary_load.proofs.RangeLemmas.{IsTapeInRange, tape-in_range, stored-memory}
-use Rattle.nova_memory.specs.Memory.{MemoryState, IsMemory, IsSize, fits_size, resized}
+use Rattle.nova_memory.specs.Memory.{MemoryState, IsMemory, IsSize, fits_size, resized, by_rule}
 use Rattle.nova_machine.specs.Machine.{MachineState, reset_devices, reset_machine}
 use Rattle.nova_machine.specs.Turn.{with_memory}
 use Rattle.nova_machine.specs.Registers.{with_register}
@@ -29,18 +29,17 @@ use Rattle.machine_laws.proofs.ValidInstruction.{reset-keeps}
 use Rattle.machine_laws.proofs.ValidBytes.{AreFiles, bytes-take, files-with}
 use Rattle.scp_examine.proofs.ValidLemmas.{LeavesRest, pc-valid}
 use Rattle.command_session.specs.RunEffects.{last_address, address_fits, starting_at, reset_where}
-use Rattle.plain_commands.specs.SetEffects.{sized}
+use Rattle.plain_commands.specs.SetEffects.{sized, ruled}
 use Rattle.command_session.specs.TapeEffects.{tape_in, tape_machine, loaded_machine}
 use Rattle.command_laws.proofs.WholeSays.{SaysBytes, whole-says}
 
 -- ---- another memory
 
-pub memory-valid : (m : MachineState) (memory : MemoryState) → ValidMachine m → IsMemory memory → IsSize memory.size → memory.before ≡ m.processor.memory.before
+pub memory-valid : (m : MachineState) (memory : MemoryState) → ValidMachine m → IsMemory memory → IsSize memory.size
     → ValidMachine (with_memory m memory)
-memory-valid m memory is new size rule = record {
+memory-valid m memory is new size = record {
   memory = new;
   size = size;
-  rule = rule ∙ is.rule;
   cpu = is.cpu;
   mask = is.mask;
   switches = is.switches;
@@ -86,7 +85,12 @@ size-is k fits =
 pub sized-valid : (m : MachineState) (k : ℕ) → ValidMachine m → fits_size k ≡ true → ValidMachine (sized m k)
 sized-valid m k is fits =
     let size = size-is k fits in
-    memory-valid m (resized m.processor.memory (1024 * k)) is (resized-memory m.processor.memory (1024 * k) is.memory size.most) size refl
+    memory-valid m (resized m.processor.memory (1024 * k)) is (resized-memory m.processor.memory (1024 * k) is.memory size.most) size
+
+pub ruled-valid : (m : MachineState) (before : Bool) → ValidMachine m → ValidMachine (ruled m before)
+ruled-valid m before is =
+    let memory = is.memory in
+    memory-valid m (by_rule before m.processor.memory) is (record { whole = memory.whole; words = memory.words; size = memory.size; beyond = memory.beyond }) is.size
 
 -- ---- RESET, and where a run starts
 
@@ -148,7 +152,7 @@ tape-valid : (r : Result Tape LoadFault) (m : MachineState) → IsTapeInRange r 
 tape-valid (Ok says) m range is =
     let memory = put_all m.processor.memory says.stores in
     starting-valid says.start (with_memory m memory) range.1
-    (memory-valid m memory is (stored-memory m.processor.memory says.stores is.memory range.0) (subst IsSize (sym (put_all-size says.stores m.processor.memory)) is.size) (put_all-rule says.stores m.processor.memory))
+    (memory-valid m memory is (stored-memory m.processor.memory says.stores is.memory range.0) (subst IsSize (sym (put_all-size says.stores m.processor.memory)) is.size))
 tape-valid (Err fault) m range is = is
 
 tape-leaves : (r : Result Tape LoadFault) (m : MachineState) → LeavesRest m (tape_machine r m)

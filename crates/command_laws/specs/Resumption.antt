@@ -1,17 +1,19 @@
 -- What SAVE leaves of a session, and what RESTORE puts in place of the one that was saved.
-use Rattle.std.specs.Prelude.{◌≡◌, ℕ, zero, suc, ◌<◌, ◌^◌, Bool, false, IsTrue, List, [], length, None, Ok}
+use Rattle.std.specs.Prelude.{◌≡◌, ℕ, ◌<◌, ◌^◌, Bool, false, IsTrue, List, [], ◌∷◌, length, None, Ok}
 use Rattle.std.specs.List.{AllByRecursion}
 use Rattle.file_traits.specs.Lists.{NamedBytes, bytes_of, with_file}
 use Rattle.host_lines.specs.Traffic.{Peer, Ahead, listening}
 use Rattle.telnet_lines.specs.Line.{LineOf}
+use Rattle.unit_list.specs.Bus.{kinds_of}
 use Rattle.expect_actions.specs.Watch.{forgotten}
 use Rattle.file_commands.specs.Notes.{CommandNote}
 use Rattle.nova_machine.specs.Seen.{attached_in}
 use Rattle.nova_machine.specs.Valid.{DiskIsItsFile}
 use Rattle.saved_session.specs.Parts.{State}
 use Rattle.state_transfer.specs.PutBack.{CanBeSaved}
-use Rattle.state_transfer.specs.Session.{saved_port, saved}
-use Rattle.state_text.specs.Text.{text}
+use Rattle.state_transfer.specs.Ports.{ports_wanted}
+use Rattle.state_transfer.specs.Session.{saved_ports, saved}
+use Rattle.state_text.specs.Text.{IsTextOf, text}
 use Rattle.saved_session.specs.Valid.{Fits}
 use Rattle.state_text.specs.Laws.{HasWidths}
 use Rattle.state_transfer.specs.SavedValid.{IsStandard}
@@ -42,20 +44,24 @@ left_by_save name live = state_made name (flushed_with None live)
 
 -- ---- RESTORE
 
--- what is still to come on lines, less the listening on a port; 0 is none
-abbrev pub ahead_behind : ℕ → Ahead → Ahead
-ahead_behind zero ahead = ahead
-ahead_behind (suc port) ahead = (listening ahead).ahead
+-- what is still to come on lines, less a listening on each of these ports
+abbrev pub ahead_behind : List ℕ → Ahead → Ahead
+ahead_behind [] ahead = ahead
+ahead_behind (port ∷ more) ahead = ahead_behind more (listening ahead).ahead
+
+-- the ports of a session's lines, in the order in which a RESTORE listens on them
+abbrev pub ports_saved : Live → List ℕ
+ports_saved s = ports_wanted (saved_ports s.lines) s.lines
 
 -- A saved session goes on in a present one: the machine with what is attached to it, the watch tables and the lines are
 -- those that were saved. The keys and the files are the present ones, and so is what is still to come on lines, less the
--- listening on the port, where line 0 has one.
+-- listenings on the ports of those lines.
 abbrev pub continued : Live → Live → Live
 continued s present = record present {
   machine = s.machine;
   watch = s.watch;
   lines = s.lines;
-  ahead = ahead_behind (saved_port s.lines) present.ahead;
+  ahead = ahead_behind (ports_saved s) present.ahead;
 }
 
 -- what was saved of a session at a time when its files were these
@@ -79,18 +85,29 @@ pub record IsAtRest (s : Live) : Type 0 where
   pub written : s.machine.disk.written ≡ false
   pub watch : s.watch ≡ forgotten s.watch
 
--- A file has the text of what was saved of the session s, which is at rest, when the files were those. Since then the state
--- file itself may have changed, as by the SAVE.
+-- A file has the text of what was saved of the session s, which is at rest, when the files were those, or its text in the
+-- first version, where it has one. Since then the state file itself may have changed, as by the SAVE.
 pub record HoldsSaved (files then_files : List NamedBytes) (name : List ℕ) (s : Live) : Type 0 where
   pub rest : IsAtRest s
   pub lengths : HaveLengths then_files
-  pub bytes : bytes_of files name ≡ text (saved_among then_files s)
+  pub bytes : IsTextOf (saved_among then_files s) (bytes_of files name)
 
 -- it can be saved, and each number and each list of what is saved fits its field
 pub record IsSavable (files : List NamedBytes) (s : Live) : Type 0 where
   pub can : CanBeSaved s
   pub fits : Fits (saved_among files s)
   pub widths : HasWidths (saved_among files s)
+
+-- the machines of two sessions have units of the same kinds
+abbrev pub HaveSameKinds : Live → Live → Type 0
+HaveSameKinds present s = kinds_of present.machine.units ≡ kinds_of s.machine.units
+
+-- a session can get another one put back: its files are those of that session, its machine has units of the same kinds, and
+-- as many lines
+pub record IsLike (present s : Live) : Type 0 where
+  pub files : present.files ≡ s.files
+  pub kinds : HaveSameKinds present s
+  pub many : length present.lines ≡ length s.lines
 
 -- a RESTORE of that file is done, and has used so many notes
 pub record IsRestored (limit : ℕ) (notes : List CommandNote) (live : Live) (force : Bool) (name : List ℕ) (used : ℕ) : Type 0 where
@@ -100,14 +117,14 @@ pub record IsRestored (limit : ℕ) (notes : List CommandNote) (live : Live) (fo
 pub record RestorePutsBack : Type 0 where
   -- a session at rest can be saved, and what is saved of it fits
   pub savable : (s : Live) (files : List NamedBytes) → IsAtRest s → HaveLengths files → IsSavable files s
-  -- a RESTORE that is done, of the text of any session that was saved, puts that session in place, where the files are those
-  -- of that session and the machine has as many lines
+  -- a RESTORE that is done, of the text of any session that was saved, in either version, puts that session in place, where
+  -- the present one is like it
   pub restored : (limit : ℕ) (notes : List CommandNote) (live s : Live) (force : Bool) (name : List ℕ) (then_files : List NamedBytes) (used : ℕ)
-      → IsRestored limit notes live force name used → HoldsSaved live.files then_files name s → live.files ≡ s.files → length live.lines ≡ length s.lines
+      → IsRestored limit notes live force name used → HoldsSaved live.files then_files name s → IsLike live s
       → effect limit notes live (Restore force name) ≡ done_with used (continued s live)
   -- and the disk alone has changed the disk's file in it: that has what the disk holds
   pub alone : (limit : ℕ) (notes : List CommandNote) (live s : Live) (force : Bool) (name : List ℕ) (then_files : List NamedBytes) (used : ℕ)
-      → IsRestored limit notes live force name used → HoldsSaved live.files then_files name s → live.files ≡ s.files → length live.lines ≡ length s.lines
+      → IsRestored limit notes live force name used → HoldsSaved live.files then_files name s → IsLike live s
       → IsTrue (disk_alone live (continued s live))
   -- it is done only where nothing is attached and no line has a port
   pub unoccupied : (limit : ℕ) (notes : List CommandNote) (live : Live) (force : Bool) (name : List ℕ) (used : ℕ) → IsRestored limit notes live force name used

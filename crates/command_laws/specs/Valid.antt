@@ -1,9 +1,9 @@
 -- What every state is within a session, and what commands make of it.
-use Rattle.std.specs.Prelude.{◌≡◌, ◌≢◌, ◌≤◌, ℕ, Bool, true, false, IsTrue, List, [], map, length, Some, Ok, Err}
+use Rattle.std.specs.Prelude.{◌≡◌, ◌≢◌, ◌≤◌, ℕ, Bool, true, false, IsTrue, List, [], map, drop, length, Some, Ok, Err}
 use Rattle.observations.specs.Observations.{StandsAt}
 use Rattle.nova_machine.specs.Comes.{Output}
 use Rattle.nova_machine.specs.Run.{last_time}
-use Rattle.nova_machine.specs.Machine.{MachineState, lines_for}
+use Rattle.nova_machine.specs.Machine.{MachineState, lines_for, place_of as line_place}
 use Rattle.nova_machine.specs.Seen.{unnumbered}
 use Rattle.nova_machine.specs.Valid.{AreBytes, Valid, DiskIsItsFile, LeavesDiskFile}
 use Rattle.file_commands.specs.Notes.{CommandNote}
@@ -20,7 +20,7 @@ use Rattle.command_session.specs.Reply.{Answer, Reply}
 use Rattle.scp_commands.specs.Effect.{effect}
 use Rattle.command_session.specs.Doing.{Does}
 use Rattle.command_session.specs.Remains.{Remains}
-use Rattle.command_session.specs.LinesLeft.{AreSessionLines}
+use Rattle.terminal_ports.specs.Ports.{HavePortsApart, AreNumbered}
 
 -- a machine of this program, as it is seen: it has the standard units, and no numbers of files, nothing kept aside and no lines of
 -- its own
@@ -31,13 +31,14 @@ pub record IsProgramMachine (m : MachineState) : Type 0 where
   pub lines : m.lines ≡ []
 
 -- A state that commands work on: all is in range, no time comes past the end of time, and it has a machine of this program,
--- with as many lines as its units say, no two of which have one port.
+-- with as many lines as its units say, no two of which have one port. The ports of the multiplexer's lines rise by one.
 pub record ValidLive (live : Live) : Type 0 where
   pub valid : Valid live
   pub time : live.machine.time ≤ last_time
   pub machine : IsProgramMachine live.machine
   pub count : length live.lines ≡ length (lines_for live.machine.units)
-  pub ports : AreSessionLines live.lines
+  pub ports : HavePortsApart live.lines
+  pub numbered : AreNumbered (drop (line_place 1) live.lines)
 
 -- the script that a DO has read is of bytes
 abbrev pub GivesBytes : Answer → Type 0

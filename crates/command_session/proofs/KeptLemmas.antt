@@ -9,7 +9,7 @@ use Rattle.file_commands.proofs.Exact.{exact-none}
 use Rattle.nova_machine.specs.declared.machine.Stop.TheVariants.{ConsoleFault, FileFault}
 use Rattle.command_session.specs.declared.next.Next.TheVariants.{Ran}
 use Rattle.command_session.specs.declared.fault.CommandFault.TheVariants.{Console, OutOfMemory, NoFile, FileTooLong, FileFailed}
-use Rattle.command_session.specs.declared.fault.CommandFault.TheVariants.{LoadTruncated, LoadSum, PastMemory, NotState, Version, BadDigest, BadField, Truncated, Changed}
+use Rattle.command_session.specs.declared.fault.CommandFault.TheVariants.{LoadTruncated, LoadSum, PastMemory, NotState, Version, BadDigest, BadField, Truncated, MissingUnit, Changed}
 use Rattle.command_session.specs.Reply.{Answer}
 use Rattle.command_session.specs.Doing.{FileCause, Keeps, KeepsOwn, IsOfPort, is_missing}
 use Rattle.host_lines.specs.State.{LineState}
@@ -62,6 +62,7 @@ keeps-none number time tells answer notes notes' state none own = record {
     cause (Err (BadDigest given found)) own = tt
     cause (Err (BadField place)) own = tt
     cause (Err Truncated) own = tt
+    cause (Err MissingUnit) own = tt
     cause (Err (Changed unit)) own = tt
     cause (Err Console) own = (ConsoleFault, refl)
     cause (Err OutOfMemory) own = tt

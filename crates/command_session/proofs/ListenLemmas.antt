@@ -1,5 +1,5 @@
 -- Commands that listen on no port.
-use Rattle.std.proofs.Common.{◌≢◌, Bool, Err, refl, subst}
+use Rattle.std.proofs.Common.{◌≢◌, inl, Bool, Err, refl, subst}
 use Rattle.scp_parser.specs.Command.{Request, AttachPort, Restore}
 use Rattle.command_session.specs.declared.fault.CommandFault.TheVariants.{OutOfMemory, PortFailed}
 use Rattle.command_session.specs.Reply.{Answer}
@@ -26,8 +26,7 @@ unlistened tells (AttachPort kind port) (Err OutOfMemory) s none =
     (record { listens = refl; stands = refl; behind = refl; sent = refl; counted = refl }, λ _. refl)
 unlistened tells (AttachPort kind port) answer s none = tt
 unlistened tells (Restore force name) (Err PortFailed) s none = absurd (none refl)
-unlistened tells (Restore force name) (Err OutOfMemory) s none =
-    (record { listens = refl; stands = refl; behind = refl; sent = refl; counted = refl }, λ _. refl)
+unlistened tells (Restore force name) (Err OutOfMemory) s none = inl refl
 unlistened tells (Restore force name) answer s none = tt
 unlistened tells request answer s none = none
 

@@ -2,6 +2,7 @@
 use Rattle.std.proofs.Common.{◌≡◌, ap, sym, refl, subst, ℕ, Bool, List, slice_get, slice_set, Option, Some, None, IsSome, Err}
 use Rattle.host_lines.specs.State.{LineState}
 use Rattle.telnet_lines.specs.Line.{LineOf}
+use Rattle.terminal_ports.specs.Ports.{is_taken}
 use Rattle.command_session.specs.declared.fault.CommandFault.TheVariants.{NoSuchName}
 use Rattle.command_session.specs.Reply.{Answer}
 use Rattle.command_session.specs.LineEffects.{terminal_place, closed, hung}
@@ -29,7 +30,7 @@ module _ (s : LineState) (lines : List (LineOf ℕ)) (none : slice_get lines ter
   none-closes = subst (λ (o : Option (LineOf ℕ)). closes_at terminal_place o s lines s lines) (sym none) (stays s lines lines refl)
 
 pub line-attaches : (tells : Bool) (port : ℕ) (answer : Answer) (old new : LineState) (lines : List (LineOf ℕ)) (line after : LineOf ℕ) → slice_get lines terminal_place ≡ Some line
-    → attaches_by line.port tells port answer old line new after → AttachesPort tells port answer old lines new (slice_set lines terminal_place after)
+    → attaches_by line.port (is_taken port lines) tells port answer old line new after → AttachesPort tells port answer old lines new (slice_set lines terminal_place after)
 line-attaches tells port answer old new lines line after at attaches =
     subst (λ (o : Option (LineOf ℕ)). attaches_at terminal_place o tells port answer old lines new (slice_set lines terminal_place after)) (sym at)
     (record { changed = after; lines = refl; attaches = attaches })

@@ -12,15 +12,15 @@ use Rattle.telnet_lines.specs.Joined.{seen_line, HasCaller, KeepsParties}
 use Rattle.telnet_lines.specs.Many.{AreApart}
 use Rattle.telnet_lines.proofs.Several.{stand_apart}
 use Rattle.telnet_lines.proofs.Apart.{is_or_not, same_kind, still_has, recorded_after}
-use Rattle.terminal_ports.specs.Ports.{changed_at, HasOther, OthersHaveNone, HavePortsApart, HaveNone, OnlyOneHas}
+use Rattle.terminal_ports.specs.Ports.{changed_at, is_taken, HasOther, OthersHaveNone, HavePortsApart, HaveNone}
 use Rattle.terminal_ports.specs.Listening.{IsListening}
-use Rattle.terminal_ports.proofs.PortsApart.{changed-set, changed-none, changed-same, set-same, apart-by, none-given, given-apart, only-by, only-set, only-closed}
+use Rattle.terminal_ports.proofs.PortsApart.{changed-set, changed-none, changed-same, set-same, apart-by, none-given, free-apart, untaken}
 use Rattle.host_lines.specs.declared.lines.ListenFault.{ListenFault}
 use Rattle.host_lines.specs.declared.lines.ListenFault.TheVariants as listen
 use Rattle.nova_machine.specs.LineChanges.{ports_of, HaveNoPort, HasConnection, AreLinesTold, LinesGoOn}
 use Rattle.nova_machine.proofs.LineSteps.{lines-stay, first-same, first-through, hears-same, hears-equal, hears-then, no-ports-same}
 use Rattle.command_session.specs.LineEffects.{terminal_place, ported, closed, closed_by, hung, hung_by, unported, hung_up}
-use Rattle.command_session.specs.LinesLeft.{HasPort, AreListened, AreSessionLines, LinesLeft, GivesUp, SeenAs, without_any}
+use Rattle.command_session.specs.LinesLeft.{HasPort, AreListened, LinesLeft, GivesUp, SeenAs, without_any}
 
 -- ---- ports
 
@@ -113,36 +113,19 @@ same-many [] place after = refl
 same-many (l ∷ lines) zero after = refl
 same-many (l ∷ lines) (suc place) after = let more = same-many lines place after in omega (arith, more)
 
--- lines with the same ports
-pub session-by : {P Q : Type 0} (lines : List (LineOf P)) (others : List (LineOf Q)) → ports_of others ≡ ports_of lines → AreSessionLines lines → AreSessionLines others
-session-by lines others same own = record {
-  apart = apart-by lines others same own.apart;
-  others = only-by terminal_place lines others same own.others;
-}
-
--- the second teletype gets a port
-pub session-listened : {P : Type 0} (lines : List (LineOf P)) (port : ℕ) → port ≢ 0 → AreSessionLines lines
-    → AreSessionLines (slice_set lines terminal_place (unconnected (Some port)))
-session-listened {P} lines port some own = record {
-  apart = given-apart terminal_place lines port some own.others own.apart;
-  others = only-set terminal_place lines (unconnected (Some port)) own.others;
-}
-
--- a line loses its port
-session-freed : {P : Type 0} (place : ℕ) (lines : List (LineOf P)) (after : LineOf P) → after.port ≡ None → AreSessionLines lines → AreSessionLines (slice_set lines place after)
-session-freed place lines after free own = record {
-  apart = none-given place lines after free own.apart;
-  others = only-closed place terminal_place lines after free own.others;
-}
+-- the second teletype gets a port that no line has
+pub apart-listened : {P : Type 0} (lines : List (LineOf P)) (port : ℕ) → port ≢ 0 → is_taken port lines ≡ false → HavePortsApart lines
+    → HavePortsApart (slice_set lines terminal_place (unconnected (Some port)))
+apart-listened lines port some free own = free-apart terminal_place lines port some (untaken port lines free) own
 
 -- the same of lines in which the one at a place has changed, where it is there
-changed-session : {P : Type 0} (place : ℕ) (change : LineOf P → LineOf P) (lines : List (LineOf P)) → AreSessionLines lines
-    → ((line : LineOf P) → slice_get lines place ≡ Some line → AreSessionLines (slice_set lines place (change line))) → AreSessionLines (changed_at place change lines)
-changed-session {P} place change lines own changes = by (slice_get lines place) refl
+apart-changed : {P : Type 0} (place : ℕ) (change : LineOf P → LineOf P) (lines : List (LineOf P)) → HavePortsApart lines
+    → ((line : LineOf P) → slice_get lines place ≡ Some line → HavePortsApart (slice_set lines place (change line))) → HavePortsApart (changed_at place change lines)
+apart-changed {P} place change lines own changes = by (slice_get lines place) refl
   where
-    by : (o : Option (LineOf P)) → slice_get lines place ≡ o → AreSessionLines (changed_at place change lines)
-    by None none = subst (λ (ls : List (LineOf P)). AreSessionLines ls) (sym (changed-none change place lines none)) own
-    by (Some line) at = subst (λ (ls : List (LineOf P)). AreSessionLines ls) (changed-set change place lines line at) (changes line at)
+    by : (o : Option (LineOf P)) → slice_get lines place ≡ o → HavePortsApart (changed_at place change lines)
+    by None none = subst (λ (ls : List (LineOf P)). HavePortsApart ls) (sym (changed-none change place lines none)) own
+    by (Some line) at = subst (λ (ls : List (LineOf P)). HavePortsApart ls) (changed-set change place lines line at) (changes line at)
 
 closed-free : {P : Type 0} (port : Option ℕ) (line : LineOf P) → line.port ≡ port → (closed_by port line).port ≡ None
 closed-free None line is = is
@@ -152,39 +135,29 @@ hung-same : {P : Type 0} (port : Option ℕ) (line : LineOf P) → line.port ≡
 hung-same None line is = refl
 hung-same (Some port) line is = sym is
 
-pub session-unported : {P : Type 0} (place : ℕ) (lines : List (LineOf P)) → AreSessionLines lines → AreSessionLines (unported place lines)
-session-unported place lines own = changed-session place closed lines own (λ line at. session-freed place lines (closed line) (closed-free line.port line refl) own)
+pub apart-unported : {P : Type 0} (place : ℕ) (lines : List (LineOf P)) → HavePortsApart lines → HavePortsApart (unported place lines)
+apart-unported place lines own = apart-changed place closed lines own (λ line at. none-given place lines (closed line) (closed-free line.port line refl) own)
 
-pub session-hung : {P : Type 0} (place : ℕ) (lines : List (LineOf P)) → AreSessionLines lines → AreSessionLines (hung_up place lines)
-session-hung place lines own =
-    changed-session place hung lines own (λ line at. session-by lines (slice_set lines place (hung line)) (same-ports lines place line (hung line) at (hung-same line.port line refl)) own)
+pub apart-hung : {P : Type 0} (place : ℕ) (lines : List (LineOf P)) → HavePortsApart lines → HavePortsApart (hung_up place lines)
+apart-hung place lines own =
+    apart-changed place hung lines own (λ line at. apart-by lines (slice_set lines place (hung line)) (same-ports lines place line (hung line) at (hung-same line.port line refl)) own)
 
-pub session-ported : {P : Type 0} (port : Option ℕ) (lines : List (LineOf P)) → port ≢ Some 0 → AreSessionLines lines → AreSessionLines (ported terminal_place port lines)
-session-ported {P} None lines some own =
-    changed-session terminal_place (λ (line : LineOf P). unconnected None) lines own (λ line at. session-freed terminal_place lines (unconnected None) refl own)
-session-ported {P} (Some port) lines some own =
-    changed-session terminal_place (λ (line : LineOf P). unconnected (Some port)) lines own
-    (λ line at. session-listened lines port (λ none. some (ap Some none)) own)
+pub apart-ported : {P : Type 0} (port : ℕ) (lines : List (LineOf P)) → port ≢ 0 → is_taken port lines ≡ false → HavePortsApart lines
+    → HavePortsApart (ported terminal_place (Some port) lines)
+apart-ported {P} port lines some free own =
+    apart-changed terminal_place (λ (line : LineOf P). unconnected (Some port)) lines own (λ line at. apart-listened lines port some free own)
 
 -- lines without a port
-free-only : {P : Type 0} (place : ℕ) (lines : List (LineOf P)) → HaveNone lines → OnlyOneHas place lines
-free-only place [] none = tt
-free-only zero (line ∷ lines) none = none.1
-free-only (suc place) (line ∷ lines) none = (none.0, free-only place lines none.1)
-
-free-apart : {P : Type 0} (lines : List (LineOf P)) → HaveNone lines → HavePortsApart lines
-free-apart [] none = tt
-free-apart {P} (line ∷ lines) none = (
+pub apart-free : {P : Type 0} (lines : List (LineOf P)) → HaveNone lines → HavePortsApart lines
+apart-free [] none = tt
+apart-free {P} (line ∷ lines) none = (
   λ own. absurd (true≢false (ap is_some (sym own ∙ none.0))),
-  (subst (λ (p : Option ℕ). OthersHaveNone {P = P} p lines) (sym none.0) (any lines), free-apart lines none.1),
+  (subst (λ (p : Option ℕ). OthersHaveNone {P = P} p lines) (sym none.0) (any lines), apart-free lines none.1),
 )
   where
     any : (ls : List (LineOf P)) → OthersHaveNone {P = P} None ls
     any [] = tt
     any (l ∷ ls) = (tt, any ls)
-
-pub session-free : {P : Type 0} (lines : List (LineOf P)) → HaveNone lines → AreSessionLines lines
-session-free lines none = record { apart = free-apart lines none; others = free-only terminal_place lines none }
 
 -- ---- calls one behind another
 
@@ -232,7 +205,7 @@ left-run tells s new before after run = record {
   owned = run.owned;
   later = run.later;
   many = many-by before after run.ports;
-  session = λ own. session-by before after run.ports own;
+  session = λ own. apart-by before after run.ports own;
   listened = λ own all. listened-by s new before after run.listens run.ports all;
   told = λ tells apart.
       let told = run.told (inl (tells, apart)) in
@@ -350,15 +323,15 @@ module _ (place : ℕ) (tells : Bool) (port : Option ℕ) (old new : LineState) 
         | inl has ↦ inl (other-connection conn place lines line after at out.1 has)
       ]
 
-  still-session : AreSessionLines lines → AreSessionLines (slice_set lines place after)
+  still-session : HavePortsApart lines → HavePortsApart (slice_set lines place after)
   still-session own = elim gives.which [
-    | inl closes ↦ session-freed place lines after closes.1 own
-    | inr keeps ↦ session-by lines (slice_set lines place after) (same-ports lines place line after at keeps.1) own
+    | inl closes ↦ none-given place lines after closes.1 own
+    | inr keeps ↦ apart-by lines (slice_set lines place after) (same-ports lines place line after at keeps.1) own
   ]
 
-  still-listened : AreSessionLines lines → AreListened old lines → AreListened new (slice_set lines place after)
+  still-listened : HavePortsApart lines → AreListened old lines → AreListened new (slice_set lines place after)
   still-listened own all = elim gives.which [
-    | inl closes ↦ still-others old new place lines line after at closes.1 (up.listens ∙ ap (λ (p : Option ℕ). without_any p old.listens) closes.0) own.apart all
+    | inl closes ↦ still-others old new place lines line after at closes.1 (up.listens ∙ ap (λ (p : Option ℕ). without_any p old.listens) closes.0) own all
     | inr keeps ↦ still-same old new place lines line after at keeps.1 (up.listens ∙ ap (λ (p : Option ℕ). without_any p old.listens) keeps.0) all
   ]
 
@@ -571,7 +544,7 @@ all-listened s s' port (suc place) (l ∷ lines) after same own all = (one-added
 
 module _ (place : ℕ) (tells : Bool) (old new : LineState) (lines : List (LineOf ℕ)) (line : LineOf ℕ) (port : ℕ) (at : slice_get lines place ≡ Some line) where
   -- the line has the port from then on
-  pub left-listened : IsListening tells port (Ok tt) old new → line.port ≡ None → IsSettled line → (AreSessionLines lines → AreSessionLines (slice_set lines place (unconnected (Some port))))
+  pub left-listened : IsListening tells port (Ok tt) old new → line.port ≡ None → IsSettled line → (HavePortsApart lines → HavePortsApart (slice_set lines place (unconnected (Some port))))
       → LinesLeft tells old lines new (slice_set lines place (unconnected (Some port)))
   left-listened listened none settled session = record {
     ports = λ p is. elim (one-more port old.listens p (ap (λ (f : ℕ → Bool). f p) (sym listened.listens) ∙ is)) [

@@ -11,8 +11,8 @@ use Rattle.nova_machine.specs.Seen.{attached_in}
 use Rattle.scp_parser.specs.Command.{Request, Run, Go as GoRequest, Cont, Step, Attach, AttachPort, Detach, Disconnect, Load, Dump, Save, Restore, Do as DoRequest, Exit as ExitRequest}
 use Rattle.command_session.specs.declared.next.Next.TheVariants.{Go, Ran, Do, Exit}
 use Rattle.command_session.specs.declared.fault.CommandFault.{CommandFault}
-use Rattle.command_session.specs.declared.fault.CommandFault.TheVariants.{NoSuchName, OutOfRange, ReadOnlyName, AlreadyAttached, NotAttached, ReadOnly, NoFile, FileTooLong, FileFailed, PortFailed, Full, AssertFailed, Console, OutOfMemory}
-use Rattle.command_session.specs.declared.fault.CommandFault.TheVariants.{NotState, Version, BadDigest, BadField, Truncated, Changed, LoadTruncated, LoadSum, PastMemory}
+use Rattle.command_session.specs.declared.fault.CommandFault.TheVariants.{NoSuchName, OutOfRange, ReadOnlyName, AlreadyAttached, NotAttached, ReadOnly, NoFile, FileTooLong, FileFailed, PortTaken, PortFailed, Full, AssertFailed, Console, OutOfMemory}
+use Rattle.command_session.specs.declared.fault.CommandFault.TheVariants.{NotState, Version, BadDigest, BadField, Truncated, MissingUnit, Changed, LoadTruncated, LoadSum, PastMemory}
 use Rattle.command_session.specs.Reply.{Answer}
 use Rattle.command_session.specs.RunEffects.{address_fits, count_fits}
 use Rattle.command_session.specs.ExitEffects.{status_fits}
@@ -23,7 +23,8 @@ use Rattle.command_session.specs.Occupied.{is_occupied}
 
 -- ---- faults by tables
 
--- a fault that comes by what was asked and by what a session has: its units, its memory, its watch tables, and what is attached
+-- a fault that comes by what was asked and by what a session has: its units, its memory, its watch tables, what is attached,
+-- and the ports of its lines
 abbrev pub is_by_tables : CommandFault → Bool
 is_by_tables NoSuchName = true
 is_by_tables OutOfRange = true
@@ -31,6 +32,7 @@ is_by_tables ReadOnlyName = true
 is_by_tables AlreadyAttached = true
 is_by_tables NotAttached = true
 is_by_tables ReadOnly = true
+is_by_tables PortTaken = true
 is_by_tables Full = true
 is_by_tables AssertFailed = true
 is_by_tables fault = false
@@ -205,6 +207,7 @@ OfRestore force (Err (Version version)) = Unit {0}
 OfRestore force (Err (BadDigest given found)) = Unit {0}
 OfRestore force (Err (BadField place)) = Unit {0}
 OfRestore force (Err Truncated) = Unit {0}
+OfRestore force (Err MissingUnit) = Unit {0}
 OfRestore force (Err (Changed unit)) = force ≡ false
 OfRestore force (Err OutOfMemory) = Unit {0}
 OfRestore force (Err fault) = IsTrue (is_by_tables fault)

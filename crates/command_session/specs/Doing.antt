@@ -40,7 +40,7 @@ use Rattle.scp_parser.specs.Command.{Request, Attach, Do, Dump, Load, Restore, S
 use Rattle.command_session.specs.declared.next.Next.{Next}
 use Rattle.command_session.specs.declared.next.Next.TheVariants.{Exit, Ran}
 use Rattle.command_session.specs.declared.fault.CommandFault.TheVariants.{Console, OutOfMemory, NoFile, FileTooLong, FileFailed, PortFailed}
-use Rattle.command_session.specs.declared.fault.CommandFault.TheVariants.{LoadTruncated, LoadSum, PastMemory, NotState, Version, BadDigest, BadField, Truncated, Changed}
+use Rattle.command_session.specs.declared.fault.CommandFault.TheVariants.{LoadTruncated, LoadSum, PastMemory, NotState, Version, BadDigest, BadField, Truncated, MissingUnit, Changed}
 use Rattle.command_session.specs.Live.{Live, Standing, standing, CommandState, beyond, live_in}
 use Rattle.command_session.specs.Nature.{Telling, nature}
 use Rattle.command_session.specs.Nature.Telling.{Nothing, Ported, Listening, Attached, Named, Whole}
@@ -168,6 +168,7 @@ FileCause stamp tells (Err (Version version)) kept old new = AllClosings kept
 FileCause stamp tells (Err (BadDigest given found)) kept old new = AllClosings kept
 FileCause stamp tells (Err (BadField place)) kept old new = AllClosings kept
 FileCause stamp tells (Err Truncated) kept old new = AllClosings kept
+FileCause stamp tells (Err MissingUnit) kept old new = AllClosings kept
 FileCause stamp tells (Err (Changed unit)) kept old new = AllClosings kept
 FileCause stamp tells (Err OutOfMemory) kept old new = AllClosings kept
 FileCause stamp tells (Err Console) kept old new = (stop : Stop) × (kept ≡ stop_notes stamp stop)

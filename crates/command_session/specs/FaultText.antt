@@ -21,8 +21,8 @@ use Rattle.command_session.specs.declared.fault.CommandFault.{CommandFault}
 use Rattle.command_session.specs.declared.fault.Detail.{Detail}
 use Rattle.command_session.specs.declared.fault.Detail.TheVariants.{Nothing, Place, Address, Version as AVersion, Unit as AUnit}
 use Rattle.command_session.specs.declared.fault.CommandFault.TheVariants.{Parse, NoSuchName, OutOfRange, ReadOnlyName, Console}
-use Rattle.command_session.specs.declared.fault.CommandFault.TheVariants.{AlreadyAttached, NotAttached, ReadOnly, NoFile, FileTooLong, FileFailed, PortFailed, Full, AssertFailed, TooDeep, NoLabel, NotInDo, OutOfMemory}
-use Rattle.command_session.specs.declared.fault.CommandFault.TheVariants.{NotState, Version, BadDigest, BadField, Truncated, Changed, LoadTruncated, LoadSum, PastMemory}
+use Rattle.command_session.specs.declared.fault.CommandFault.TheVariants.{AlreadyAttached, NotAttached, ReadOnly, NoFile, FileTooLong, FileFailed, PortTaken, PortFailed, Full, AssertFailed, TooDeep, NoLabel, NotInDo, OutOfMemory}
+use Rattle.command_session.specs.declared.fault.CommandFault.TheVariants.{NotState, Version, BadDigest, BadField, Truncated, MissingUnit, Changed, LoadTruncated, LoadSum, PastMemory}
 
 -- the fault of a file that was not attached, and of a unit that was not detached
 abbrev pub attach_fault : AttachFault → CommandFault
@@ -85,6 +85,7 @@ fault_words ReadOnly = Some (codes "Read only not allowed")
 fault_words NoFile = Some (codes "File not found")
 fault_words FileTooLong = Some (codes "File too long")
 fault_words (FileFailed who) = Some (codes "File error")
+fault_words PortTaken = Some (codes "Port already in use")
 fault_words PortFailed = Some (codes "Port not available")
 fault_words Full = Some (codes "Table full")
 fault_words AssertFailed = Some (codes "Assertion failed")
@@ -96,6 +97,7 @@ fault_words (Version version) = Some (codes "State version ")
 fault_words (BadDigest kept found) = Some (codes "State digest mismatch")
 fault_words (BadField place) = Some (codes "State field invalid at ")
 fault_words Truncated = Some (codes "State file truncated")
+fault_words MissingUnit = Some (codes "State has a unit that is missing")
 fault_words (Changed unit) = Some (codes "Attached file changed: ")
 fault_words (LoadTruncated place) = Some (codes "Load file truncated at ")
 fault_words (LoadSum place) = Some (codes "Load checksum error at ")

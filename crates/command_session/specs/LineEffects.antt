@@ -6,10 +6,10 @@ use Rattle.unit_trait.specs.declared.kind.Kind.TheVariants.{Tti1}
 use Rattle.unit_trait.specs.declared.kind.UnitName.{UnitName}
 use Rattle.host_lines.specs.Traffic.{Answer as LineAnswer, Failed, Peer, Replied, listening}
 use Rattle.telnet_lines.specs.Line.{LineOf, unconnected}
-use Rattle.terminal_ports.specs.Ports.{changed_at}
+use Rattle.terminal_ports.specs.Ports.{changed_at, is_taken}
 use Rattle.nova_machine.specs.Machine.{place_of}
 use Rattle.command_session.specs.declared.next.Next.TheVariants.{Go}
-use Rattle.command_session.specs.declared.fault.CommandFault.TheVariants.{AlreadyAttached, NotAttached, OutOfRange, PortFailed, NoSuchName}
+use Rattle.command_session.specs.declared.fault.CommandFault.TheVariants.{AlreadyAttached, NotAttached, OutOfRange, PortTaken, PortFailed, NoSuchName}
 use Rattle.command_session.specs.Live.{Live, standing}
 use Rattle.command_session.specs.Reply.{Answer, Reply, goes, says, refused}
 
@@ -77,14 +77,19 @@ listen_with said place port live = record {
   after = standing 0 (record live { lines = listen_lines said.answer place port live.lines; ahead = said.ahead });
 }
 
+-- a port that a line has is refused to another
+abbrev pub listen_free : ℕ → ℕ → Live → Reply
+listen_free place port live =
+    if is_taken port live.lines then refused PortTaken live else listen_with (listening live.ahead) place port live
+
 abbrev pub attach_line : Option (LineOf Peer) → ℕ → ℕ → Live → Reply
 attach_line None place port live = refused NoSuchName live
 attach_line (Some line) place port live =
     if is_some line.port then refused AlreadyAttached live
-    else if is_port port then listen_with (listening live.ahead) place port live
+    else if is_port port then listen_free place port live
     else refused OutOfRange live
 
--- ATTACH gives the line a port that is listened on from then on
+-- ATTACH gives the line a port that no line has; it is listened on from then on
 unfoldable pub attach_port_reply : Live → ℕ → Reply
 attach_port_reply live port = attach_line (terminal_line live.lines) terminal_place port live
 

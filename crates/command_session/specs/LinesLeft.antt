@@ -10,14 +10,14 @@ use Rattle.host_lines.specs.State.{LineState, IsListened, parties, without_one}
 use Rattle.telnet_lines.specs.Line.{LineOf, unconnected}
 use Rattle.telnet_lines.specs.Joined.{seen_line}
 use Rattle.telnet_lines.specs.Many.{AreApart}
-use Rattle.terminal_ports.specs.Ports.{HavePortsApart, OnlyOneHas}
-use Rattle.terminal_ports.specs.Listening.{IsListening}
+use Rattle.terminal_ports.specs.Ports.{HavePortsApart}
+use Rattle.terminal_ports.specs.Listening.{IsListening, ListensEach}
 use Rattle.nova_machine.specs.LineChanges.{HasConnection, HearsOn}
 use Rattle.scp_parser.specs.Command.{Request, AttachPort, Restore}
 use Rattle.command_session.specs.declared.next.Next.TheVariants.{Go}
-use Rattle.command_session.specs.declared.fault.CommandFault.TheVariants.{OutOfMemory, OutOfRange, PortFailed, AlreadyAttached, NotAttached}
+use Rattle.command_session.specs.declared.fault.CommandFault.TheVariants.{OutOfMemory, OutOfRange, PortTaken, PortFailed, AlreadyAttached, NotAttached}
 use Rattle.command_session.specs.Reply.{Answer}
-use Rattle.command_session.specs.LineEffects.{terminal_place, is_port}
+use Rattle.command_session.specs.LineEffects.{is_port}
 
 -- one of the lines has that port
 abbrev pub HasPort : ℕ → List (LineOf ℕ) → Type 0
@@ -28,14 +28,8 @@ HasPort port (line ∷ lines) = (line.port ≡ Some port) ⊎ HasPort port lines
 abbrev pub AreListened : LineState → List (LineOf ℕ) → Type 0
 AreListened s lines = AllByRecursion (λ (line : LineOf ℕ). IfSome line.port (IsListened s)) lines
 
--- The lines of a session: no two of them have one port. So far commands give a port to the second teletype alone, so each other
--- line, that of the console too, has none.
-pub record AreSessionLines {P : Type 0} (lines : List (LineOf P)) : Type 0 where
-  pub apart : HavePortsApart lines
-  pub others : OnlyOneHas terminal_place lines
-
 -- What a call leaves: each port that is listened on and each connection that stands is one that a line has, or was there
--- before and no line's; the count of faults has not fallen. Lines of a session stay such, and then the port of each line is
+-- before and no line's; the count of faults has not fallen. Where no two lines had one port, none have, and the port of each line is
 -- listened on if those of all lines were before. Where the outside tells what comes, what callers had heard stays in front of what they hear then; and
 -- where no two lines have one connection, none have then, and a record of answers has grown at its end.
 pub record LinesLeft (tells : Bool) (old : LineState) (before : List (LineOf ℕ)) (new : LineState) (after : List (LineOf ℕ)) : Type 0 where
@@ -43,8 +37,8 @@ pub record LinesLeft (tells : Bool) (old : LineState) (before : List (LineOf ℕ
   pub owned : (conn : ℕ) → IsTrue (new.stands conn) → HasConnection conn after ⊎ (IsTrue (old.stands conn) × (¬ HasConnection conn before))
   pub later : old.faults ≤ new.faults
   pub many : length after ≡ length before
-  pub session : AreSessionLines before → AreSessionLines after
-  pub listened : AreSessionLines before → AreListened old before → AreListened new after
+  pub session : HavePortsApart before → HavePortsApart after
+  pub listened : HavePortsApart before → AreListened old before → AreListened new after
   pub told : IsTrue tells → AreApart old before → AreApart new after × IsFirst (record_in old.told) (record_in new.told)
   pub heard : IsTrue tells → HearsOn old.sent new.sent
 
@@ -97,10 +91,22 @@ AttachCause tells (Err PortFailed) old new = NotListened (raised old.faults) old
 AttachCause tells (Err OutOfMemory) old new = NotListened old.faults old new × (IsTrue tells → new.told ≡ old.told)
 AttachCause tells answer old new = Unit {0}
 
+-- The ports of a saved session were listened on one behind another: one was not to be had, or memory ran out before it, and
+-- those before it were given up again.
+pub record SomeRefused (tells : Bool) (fault : ListenFault) (old new : LineState) : Type 0 where
+  pub ports : List ℕ
+  pub listened : ListensEach tells ports (Err fault) old new
+
+-- So it is with RESTORE. Where memory ran out, it did so there, or nothing was asked of the outside.
+abbrev pub RestoreCause : Bool → Answer → LineState → LineState → Type 0
+RestoreCause tells (Err PortFailed) old new = SomeRefused tells listen.Failed old new
+RestoreCause tells (Err OutOfMemory) old new = (new ≡ old) ⊎ SomeRefused tells listen.OutOfMemory old new
+RestoreCause tells answer old new = Unit {0}
+
 -- it is no answer of any other command
 abbrev pub ListenCause : Bool → Request → Answer → LineState → LineState → Type 0
 ListenCause tells (AttachPort kind port) answer old new = AttachCause tells answer old new
-ListenCause tells (Restore force name) answer old new = AttachCause tells answer old new
+ListenCause tells (Restore force name) answer old new = RestoreCause tells answer old new
 ListenCause tells request answer old new = answer ≢ Err PortFailed
 
 -- what a listening answers
@@ -126,14 +132,20 @@ pub record Untried (answer is : Answer) (old : LineState) (before : LineOf ℕ) 
   pub line_is : after ≡ before
   pub lines_are : new ≡ old
 
--- A line that has a port is refused another one, and so is a port out of its range.
-abbrev pub ranged : Bool → Bool → ℕ → Answer → LineState → LineOf ℕ → LineState → LineOf ℕ → Type 0
-ranged true tells port answer old before new after = Tried tells port answer old before new after
-ranged false tells port answer old before new after = Untried answer (Err OutOfRange) old before new after
+-- A line that has a port is refused another one; so is a port out of its range, and then one that another line has.
+abbrev pub free_by : Bool → Bool → ℕ → Answer → LineState → LineOf ℕ → LineState → LineOf ℕ → Type 0
+free_by true tells port answer old before new after = Untried answer (Err PortTaken) old before new after
+free_by false tells port answer old before new after = Tried tells port answer old before new after
 
-abbrev pub attaches_by : Option ℕ → Bool → ℕ → Answer → LineState → LineOf ℕ → LineState → LineOf ℕ → Type 0
-attaches_by None tells port answer old before new after = ranged (is_port port) tells port answer old before new after
-attaches_by (Some p) tells port answer old before new after = Untried answer (Err AlreadyAttached) old before new after
+abbrev pub ranged : Bool → Bool → Bool → ℕ → Answer → LineState → LineOf ℕ → LineState → LineOf ℕ → Type 0
+ranged true taken tells port answer old before new after = free_by taken tells port answer old before new after
+ranged false taken tells port answer old before new after = Untried answer (Err OutOfRange) old before new after
+
+abbrev pub attaches_by : Option ℕ → Bool → Bool → ℕ → Answer → LineState → LineOf ℕ → LineState → LineOf ℕ → Type 0
+attaches_by None taken tells port answer old before new after =
+    ranged (is_port port) taken tells port answer old before new after
+attaches_by (Some p) taken tells port answer old before new after =
+    Untried answer (Err AlreadyAttached) old before new after
 
 -- what needs a port answers
 abbrev pub needs_port : Option ℕ → Answer

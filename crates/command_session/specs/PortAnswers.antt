@@ -3,6 +3,7 @@ use Rattle.std.specs.Prelude.{◌≡◌, ℕ, Bool, true, false, List, slice_get
 use Rattle.unit_trait.specs.declared.kind.UnitName.{UnitName}
 use Rattle.host_lines.specs.State.{LineState}
 use Rattle.telnet_lines.specs.Line.{LineOf}
+use Rattle.terminal_ports.specs.Ports.{is_taken}
 use Rattle.command_session.specs.declared.fault.CommandFault.TheVariants.{NoSuchName}
 use Rattle.command_session.specs.Reply.{Answer}
 use Rattle.command_session.specs.LineEffects.{is_terminal, terminal_place, closed, hung}
@@ -22,7 +23,7 @@ pub record Lineless (answer : Answer) (old : LineState) (before : List (LineOf �
 pub record AttachesAt (place : ℕ) (tells : Bool) (port : ℕ) (answer : Answer) (old : LineState) (before : List (LineOf ℕ)) (line : LineOf ℕ) (new : LineState) (after : List (LineOf ℕ)) : Type 0 where
   pub changed : LineOf ℕ
   pub lines : after ≡ slice_set before place changed
-  pub attaches : attaches_by line.port tells port answer old line new changed
+  pub attaches : attaches_by line.port (is_taken port before) tells port answer old line new changed
 
 abbrev pub attaches_at : ℕ → Option (LineOf ℕ) → Bool → ℕ → Answer → LineState → List (LineOf ℕ) → LineState → List (LineOf ℕ) → Type 0
 attaches_at place None tells port answer old before new after = Lineless answer old before new after

@@ -41,6 +41,8 @@ pub enum CommandFault {
     FileTooLong,
     /// A call on a file failed; it may have been emptied or made before. A note says which call it was.
     FileFailed(Subject),
+    /// Another line has the port.
+    PortTaken,
     /// The port is not listened on: the host refused it, as where another program has it.
     PortFailed,
     /// There is no room for another break or expect, or for all bytes of a SEND.
@@ -64,6 +66,8 @@ pub enum CommandFault {
     BadField(usize),
     /// The state file ends before a field does.
     Truncated,
+    /// The state file has a unit that the machine lacks.
+    MissingUnit,
     /// The file of a unit is not as it was when the session was saved: it has another length, or another digest.
     Changed(UnitName),
     /// A loader tape ends within a block. The place is its end, in bytes.
@@ -170,6 +174,7 @@ impl CommandFault {
             CommandFault::NoFile => b"File not found",
             CommandFault::FileTooLong => b"File too long",
             CommandFault::FileFailed(_) => b"File error",
+            CommandFault::PortTaken => b"Port already in use",
             CommandFault::PortFailed => b"Port not available",
             CommandFault::Full => b"Table full",
             CommandFault::AssertFailed => b"Assertion failed",
@@ -181,6 +186,7 @@ impl CommandFault {
             CommandFault::BadDigest { .. } => b"State digest mismatch",
             CommandFault::BadField(_) => b"State field invalid at ",
             CommandFault::Truncated => b"State file truncated",
+            CommandFault::MissingUnit => b"State has a unit that is missing",
             CommandFault::Changed(_) => b"Attached file changed: ",
             CommandFault::LoadTruncated(_) => b"Load file truncated at ",
             CommandFault::LoadSum(_) => b"Load checksum error at ",

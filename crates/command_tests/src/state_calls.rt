@@ -30,7 +30,7 @@ const OLD: &[u8] = b"old";
 const SECTOR: &[u8] = b"AR\0\0";
 
 /// How a state file begins.
-const HEAD: &[u8] = b"NOVASTAT\0\x01";
+const HEAD: &[u8] = b"NOVASTAT\0\x02";
 
 /// Rows before a command in two tables, the line of the command, and rows behind it.
 #[derive(Clone, Copy)]
@@ -264,9 +264,9 @@ const SAVES: &str = "6:0 | DSK Write 0 0 | DiskFailed | 0 old
 14:0 | State Write 3 0 | StateFailed | 512 0
 14:5 | State Write 3 5 | StateFailed | 512 5
 14:66000 | State Write 3 66000 | StateFailed | 512 66000
-14:70000 | State Write 3 66043 | StateFailed | 512 66043
-15 | State Closing 3 | Go | 512 66043
-16 | none | Go | 512 66043";
+14:70000 | State Write 3 66048 | StateFailed | 512 66048
+15 | State Closing 3 | Go | 512 66048
+16 | none | Go | 512 66048";
 
 #[test]
 fn each_call_of_a_save_fails_in_turn(rt: HostRuntime) -> Result<(), Fail> {
@@ -289,10 +289,10 @@ SHOW DSK|100 Go|DSK, attached to d$
 SHOW PTP|100 Go|PTP, attached to p$
 E 200|100 Go|00200:\t051101$";
 
-const SAVED_LATER: &str = "6:3 | DSK Write 0 3 | DiskFailed | 512 66043
-8 | DSK Read 0 | DiskFailed | 512 66043
-12 | PTP Read 2 | PunchFailed | 512 66043
-14:5 | State Write 3 5 | StateFailed | 512 66043";
+const SAVED_LATER: &str = "6:3 | DSK Write 0 3 | DiskFailed | 512 66048
+8 | DSK Read 0 | DiskFailed | 512 66048
+12 | PTP Read 2 | PunchFailed | 512 66048
+14:5 | State Write 3 5 | StateFailed | 512 66048";
 
 #[test]
 fn a_save_that_failed_is_said_again(rt: HostRuntime) -> Result<(), Fail> {
@@ -326,25 +326,25 @@ E 200|100 Go|00200:\t051101$
 SHOW BREAK|0 Go|";
 
 /// The state file is opened, its length is asked, it is read in 17 pieces and closed: these are the calls 19 to 38.
-const RESTORES: &str = "19 | State Opening - | StateFailed | 512 66043
-20 | State Length 4 | StateFailed | 512 66043
-21 | State Read 4 | StateFailed | 512 66043
-29 | State Read 4 | StateFailed | 512 66043
-37 | State Read 4 | StateFailed | 512 66043
-39 | DSK Opening - | DiskFailed | 512 66043
-40 | DSK Length 5 | DiskFailed | 512 66043
-41 | DSK Read 5 | DiskFailed | 512 66043
-42 | DSK Length 5 | DiskFailed | 512 66043
-43 | DSK Read 5 | DiskFailed | 512 66043
-44 | MTA0 Opening - | TapeFailed | 512 66043
-45 | MTA0 Length 6 | TapeFailed | 512 66043
-46 | MTA0 Length 6 | TapeFailed | 512 66043
-47 | MTA0 Read 6 | TapeFailed | 512 66043
-48 | PTP Opening - | PunchFailed | 512 66043
-49 | PTP Length 7 | PunchFailed | 512 66043
-50 | PTP Length 7 | PunchFailed | 512 66043
-51 | PTP Read 7 | PunchFailed | 512 66043
-51 52 53 54 | PTP Read 7 | PunchFailed | 512 66043";
+const RESTORES: &str = "19 | State Opening - | StateFailed | 512 66048
+20 | State Length 4 | StateFailed | 512 66048
+21 | State Read 4 | StateFailed | 512 66048
+29 | State Read 4 | StateFailed | 512 66048
+37 | State Read 4 | StateFailed | 512 66048
+39 | DSK Opening - | DiskFailed | 512 66048
+40 | DSK Length 5 | DiskFailed | 512 66048
+41 | DSK Read 5 | DiskFailed | 512 66048
+42 | DSK Length 5 | DiskFailed | 512 66048
+43 | DSK Read 5 | DiskFailed | 512 66048
+44 | MTA0 Opening - | TapeFailed | 512 66048
+45 | MTA0 Length 6 | TapeFailed | 512 66048
+46 | MTA0 Length 6 | TapeFailed | 512 66048
+47 | MTA0 Read 6 | TapeFailed | 512 66048
+48 | PTP Opening - | PunchFailed | 512 66048
+49 | PTP Length 7 | PunchFailed | 512 66048
+50 | PTP Length 7 | PunchFailed | 512 66048
+51 | PTP Read 7 | PunchFailed | 512 66048
+51 52 53 54 | PTP Read 7 | PunchFailed | 512 66048";
 
 #[test]
 fn each_call_of_a_restore_fails_in_turn(rt: HostRuntime) -> Result<(), Fail> {
@@ -359,14 +359,14 @@ fn each_call_of_a_restore_fails_in_turn(rt: HostRuntime) -> Result<(), Fail> {
 }
 
 /// Without the calls that compare.
-const FORCED: &str = "19 | State Opening - | StateFailed | 512 66043
-39 | DSK Opening - | DiskFailed | 512 66043
-40 | DSK Length 5 | DiskFailed | 512 66043
-41 | DSK Read 5 | DiskFailed | 512 66043
-42 | MTA0 Opening - | TapeFailed | 512 66043
-43 | MTA0 Length 6 | TapeFailed | 512 66043
-44 | PTP Opening - | PunchFailed | 512 66043
-45 | PTP Length 7 | PunchFailed | 512 66043";
+const FORCED: &str = "19 | State Opening - | StateFailed | 512 66048
+39 | DSK Opening - | DiskFailed | 512 66048
+40 | DSK Length 5 | DiskFailed | 512 66048
+41 | DSK Read 5 | DiskFailed | 512 66048
+42 | MTA0 Opening - | TapeFailed | 512 66048
+43 | MTA0 Length 6 | TapeFailed | 512 66048
+44 | PTP Opening - | PunchFailed | 512 66048
+45 | PTP Length 7 | PunchFailed | 512 66048";
 
 #[test]
 fn each_call_of_a_forced_restore_fails_in_turn(rt: HostRuntime) -> Result<(), Fail> {
@@ -389,8 +389,8 @@ E DSK MA|100 Go|MA:\t00600$
 SHOW BREAK|0 Go|
 SHOW TIME|100 Go|Time: 203$";
 
-const CLOSED: &str = "38 | State Closing 4 | Go | 512 66043
-52 | none | Go | 512 66043";
+const CLOSED: &str = "38 | State Closing 4 | Go | 512 66048
+52 | none | Go | 512 66048";
 
 #[test]
 fn a_failed_closing_of_the_state_file_refuses_nothing(rt: HostRuntime) -> Result<(), Fail> {
@@ -430,6 +430,6 @@ fn a_restore_whose_port_is_refused_attaches_nothing(rt: HostRuntime) -> Result<(
         line: "RESTORE s",
         behind: UNHEARD,
     };
-    each(&rt, rt.alloc(), tables, " | none | PortFailed | 0 66043")?;
+    each(&rt, rt.alloc(), tables, " | none | PortFailed | 0 66048")?;
     Ok(())
 }

@@ -3,6 +3,7 @@ mod attaching;
 mod ends;
 mod faults;
 mod pieces;
+mod restored;
 mod same;
 mod session;
 mod texts;

@@ -11,3 +11,4 @@ pub mod StepLemmas
 pub mod HostAnswers
 pub mod NamedLemmas
 pub mod HostLemmas
+mod TakenLemmas

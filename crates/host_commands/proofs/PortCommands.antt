@@ -10,24 +10,39 @@ use Rattle.host_lines.specs.declared.lines.ListenFault.TheVariants as listen
 use Rattle.telnet_lines.specs.Line.{LineOf, IsSettled, unconnected}
 use Rattle.telnet_lines.specs.Joined.{seen_line}
 use Rattle.terminal_ports.specs.Listening.{IsListening}
-use Rattle.terminal_ports.proofs.PortsApart.{changed-set, changed-same, set-same}
+use Rattle.terminal_ports.specs.Ports.{is_taken}
+use Rattle.terminal_ports.proofs.PortsApart.{changed-set, changed-same, set-same, taken-by}
 use Rattle.expect_actions.specs.Watch.{WatchState}
 use Rattle.nova_machine.specs.Machine.{MachineState, with_line}
 use Rattle.nova_machine.specs.Seen.{seen, beside}
 use Rattle.nova_machine.specs.Comes.{Output}
+use Rattle.nova_machine.specs.LineChanges.{ports_of}
 use Rattle.command_session.specs.declared.next.Next.TheVariants.{Go}
-use Rattle.command_session.specs.declared.fault.CommandFault.TheVariants.{NoSuchName, NotAttached, AlreadyAttached, OutOfRange, PortFailed, OutOfMemory}
+use Rattle.command_session.specs.declared.fault.CommandFault.TheVariants.{NoSuchName, NotAttached, AlreadyAttached, OutOfRange, PortTaken, PortFailed, OutOfMemory}
 use Rattle.command_session.specs.Live.{Live, standing}
 use Rattle.command_session.specs.Reply.{Answer, Reply, goes, refused}
-use Rattle.command_session.specs.LineEffects.{terminal_place, terminal_line, ported, closed, unported, hung, hung_up, is_port, listen_with, attach_line, attach_port_reply, with_port, detach_port_reply, disconnect_reply}
-use Rattle.command_session.specs.LinesLeft.{LinesLeft, SeenAs, Untried, listened_answer, listened_line, ranged, attaches_by, needs_port, AttachCause}
+use Rattle.command_session.specs.LineEffects.{terminal_place, terminal_line, ported, closed, unported, hung, hung_up, is_port, listen_with, listen_free, attach_line, attach_port_reply, with_port, detach_port_reply, disconnect_reply}
+use Rattle.command_session.specs.LinesLeft.{LinesLeft, SeenAs, Untried, listened_answer, listened_line, free_by, ranged, attaches_by, needs_port, AttachCause}
 use Rattle.command_session.specs.Doing.{Does, IsRefused}
 use Rattle.command_session.proofs.ReplyLemmas.{goes-said, refused-said}
-use Rattle.command_session.proofs.PortLemmas.{closed-none, hung-none, seen-still, seen-changed, left-same, left-listened, left-unlistened, session-listened}
+use Rattle.command_session.proofs.PortLemmas.{closed-none, hung-none, seen-still, seen-changed, left-same, left-listened, left-unlistened, apart-listened}
 
 -- the line of the second teletype, as it is seen
 terminal-at : (s : LineState) (lines : List (LineOf ℕ)) (o : Option (LineOf ℕ)) → slice_get lines terminal_place ≡ o → terminal_line (map (seen_line s) lines) ≡ option_map (seen_line s) o
 terminal-at s lines o is = slice_get-map (seen_line s) lines terminal_place ∙ ap (option_map (seen_line s)) is
+
+-- lines are seen with their ports
+seen-ports : (s : LineState) (lines : List (LineOf ℕ)) → ports_of (map (seen_line s) lines) ≡ ports_of lines
+seen-ports s [] = refl
+seen-ports s (line ∷ lines) = ap (λ (ps : List (Option ℕ)). line.port ∷ ps) (seen-ports s lines)
+
+seen-taken : (s : LineState) (lines : List (LineOf ℕ)) (port : ℕ) → is_taken port (map (seen_line s) lines) ≡ is_taken port lines
+seen-taken s lines port = taken-by port lines (map (seen_line s) lines) (seen-ports s lines)
+
+-- whether a line has the port was asked before
+pub taken-as : (taken tells : Bool) (old new : LineState) (lines : List (LineOf ℕ)) (line after : LineOf ℕ) (port : ℕ) (answer : Answer) → taken ≡ is_taken port lines
+    → attaches_by line.port taken tells port answer old line new after → attaches_by line.port (is_taken port lines) tells port answer old line new after
+taken-as taken tells old new lines line after port answer is told = subst (λ (t : Bool). attaches_by line.port t tells port answer old line new after) is told
 
 -- ---- what needs a port
 
@@ -138,7 +153,7 @@ module _ (watch : WatchState) (keys : List (ℕ × ℕ)) (files : List NamedByte
   attached old new line after port (Err listen.OutOfMemory) at is listened first = tt
 
   pub attach-does : (old new : LineState) (line after : LineOf ℕ) (port : ℕ) (answer : Answer) → slice_get m.lines terminal_place ≡ Some line
-      → attaches_by line.port true port answer old line new after → IsFirst (record_in new.told) whole
+      → attaches_by line.port (is_taken port m.lines) true port answer old line new after → IsFirst (record_in new.told) whole
       → Does (attach_port_reply (seen (beside watch keys files old) whole m) port) answer (standing 0 (seen (beside watch keys files new) whole (with_line m terminal_place after))) tells text text
   unfolding attach_port_reply
   attach-does old new line after port answer at attaches first =
@@ -152,18 +167,28 @@ module _ (watch : WatchState) (keys : List (ℕ × ℕ)) (files : List NamedByte
       live' : Live
       live' = seen (beside watch keys files new) whole (with_line m terminal_place after)
 
-      in-range : (b : Bool) → ranged b true port answer old line new after
-          → Does (if b then listen_with (listening live.ahead) terminal_place port live else refused OutOfRange live) answer (standing 0 live') tells text text
-      in-range true tried =
+      free : (b : Bool) → free_by b true port answer old line new after
+          → Does (if b then refused PortTaken live else listen_with (listening live.ahead) terminal_place port live) answer (standing 0 live') tells text text
+      free true untried =
+          subst (λ (a : Answer). Does (refused PortTaken live) a (standing 0 live') tells text text) (sym untried.answer_is)
+          (subst (λ (l : Live). Does (refused PortTaken live) (Err PortTaken) (standing 0 l) tells text text) (sym (same-live old new line after at untried.line_is untried.lines_are))
+          (refl, refused-said PortTaken live tells text))
+      free false tried =
           subst (λ (a : Answer). Does (listen_with (listening live.ahead) terminal_place port live) a (standing 0 live') tells text text) (sym tried.answer_is)
           (attached old new line after port tried.result at tried.line_is tried.listened first)
+
+      in-range : (b : Bool) → ranged b (is_taken port m.lines) true port answer old line new after
+          → Does (if b then listen_free terminal_place port live else refused OutOfRange live) answer (standing 0 live') tells text text
+      in-range true attaches =
+          subst (λ (t : Bool). Does (if t then refused PortTaken live else listen_with (listening live.ahead) terminal_place port live) answer (standing 0 live') tells text text)
+          (sym (seen-taken old m.lines port)) (free (is_taken port m.lines) attaches)
       in-range false untried =
           subst (λ (a : Answer). Does (refused OutOfRange live) a (standing 0 live') tells text text) (sym untried.answer_is)
           (subst (λ (l : Live). Does (refused OutOfRange live) (Err OutOfRange) (standing 0 l) tells text text) (sym (same-live old new line after at untried.line_is untried.lines_are))
           (refl, refused-said OutOfRange live tells text))
 
-      by : (p : Option ℕ) → attaches_by p true port answer old line new after
-          → Does (if is_some p then refused AlreadyAttached live else if is_port port then listen_with (listening live.ahead) terminal_place port live else refused OutOfRange live) answer (standing 0 live') tells text text
+      by : (p : Option ℕ) → attaches_by p (is_taken port m.lines) true port answer old line new after
+          → Does (if is_some p then refused AlreadyAttached live else if is_port port then listen_free terminal_place port live else refused OutOfRange live) answer (standing 0 live') tells text text
       by None attaches = in-range (is_port port) attaches
       by (Some p) untried =
           subst (λ (a : Answer). Does (refused AlreadyAttached live) a (standing 0 live') tells text text) (sym untried.answer_is)
@@ -178,12 +203,12 @@ module _ (tells : Bool) (old new : LineState) (lines : List (LineOf ℕ)) (line 
       subst (λ (s : LineState). LinesLeft tells old lines s (slice_set lines terminal_place after)) (sym untried.lines_are)
       (subst (λ (ls : List (LineOf ℕ)). LinesLeft tells old lines old ls) (sym (ap (λ (l : LineOf ℕ). slice_set lines terminal_place l) untried.line_is ∙ set-same terminal_place lines line at)) (left-same tells old lines))
 
-  attach-tried : line.port ≡ None → port ≢ 0 → (result : Result (Unit {0}) ListenFault) → (OnOk result (IsSettled line)) → after ≡ listened_line port result line → IsListening tells port result old new
+  attach-tried : line.port ≡ None → port ≢ 0 → is_taken port lines ≡ false → (result : Result (Unit {0}) ListenFault) → (OnOk result (IsSettled line)) → after ≡ listened_line port result line → IsListening tells port result old new
       → LinesLeft tells old lines new (slice_set lines terminal_place after)
-  attach-tried none some (Ok tt) settled is listened =
+  attach-tried none some free (Ok tt) settled is listened =
       subst (λ (l : LineOf ℕ). LinesLeft tells old lines new (slice_set lines terminal_place l)) (sym is)
-      (left-listened terminal_place tells old new lines line port at listened none settled (session-listened lines port some))
-  attach-tried none some (Err fault) settled is listened =
+      (left-listened terminal_place tells old new lines line port at listened none settled (apart-listened lines port some free))
+  attach-tried none some free (Err fault) settled is listened =
       subst (λ (ls : List (LineOf ℕ)). LinesLeft tells old lines new ls) (sym (ap (slice_set lines terminal_place) is ∙ set-same terminal_place lines line at))
       (left-unlistened tells old new lines port fault listened)
 
@@ -194,14 +219,19 @@ module _ (tells : Bool) (old new : LineState) (lines : List (LineOf ℕ)) (line 
   on-ok (Ok x) is settled = subst (λ (a : Answer). OnOk a (IsSettled line)) is settled
   on-ok (Err fault) is settled = tt
 
-  pub attach-left : attaches_by line.port tells port answer old line new after → OnOk answer (IsSettled line) → LinesLeft tells old lines new (slice_set lines terminal_place after)
+  pub attach-left : attaches_by line.port (is_taken port lines) tells port answer old line new after → OnOk answer (IsSettled line) → LinesLeft tells old lines new (slice_set lines terminal_place after)
   attach-left attaches settled = by line.port refl attaches
     where
-      in-range : (b : Bool) → is_port port ≡ b → line.port ≡ None → ranged b tells port answer old line new after → LinesLeft tells old lines new (slice_set lines terminal_place after)
-      in-range true is none tried = attach-tried none (not-zero is) tried.result (on-ok tried.result tried.answer_is settled) tried.line_is tried.listened
+      free : (b : Bool) → is_taken port lines ≡ b → port ≢ 0 → line.port ≡ None → free_by b tells port answer old line new after → LinesLeft tells old lines new (slice_set lines terminal_place after)
+      free true is some none untried = attach-untried (Err PortTaken) untried
+      free false is some none tried = attach-tried none some is tried.result (on-ok tried.result tried.answer_is settled) tried.line_is tried.listened
+
+      in-range : (b : Bool) → is_port port ≡ b → line.port ≡ None → ranged b (is_taken port lines) tells port answer old line new after
+          → LinesLeft tells old lines new (slice_set lines terminal_place after)
+      in-range true is none attaches = free (is_taken port lines) refl (not-zero is) none attaches
       in-range false is none untried = attach-untried (Err OutOfRange) untried
 
-      by : (p : Option ℕ) → line.port ≡ p → attaches_by p tells port answer old line new after → LinesLeft tells old lines new (slice_set lines terminal_place after)
+      by : (p : Option ℕ) → line.port ≡ p → attaches_by p (is_taken port lines) tells port answer old line new after → LinesLeft tells old lines new (slice_set lines terminal_place after)
       by None none attaches = in-range (is_port port) refl none attaches
       by (Some p) has untried = attach-untried (Err AlreadyAttached) untried
 
@@ -228,25 +258,36 @@ module _ (tells : Bool) (old new : LineState) (m : MachineState) (line after : L
   tried-same (Ok x) is left refused = absurd (subst (λ (a : Answer). IsRefused a) is refused)
   tried-same (Err fault) is left refused = left
 
-  pub attach-refused : slice_get m.lines terminal_place ≡ Some line → attaches_by line.port tells port answer old line new after → IsRefused answer → with_line m terminal_place after ≡ m
+  abbrev Unrefused : Type 0
+  Unrefused = (option_map (λ (l : LineOf ℕ). l.port) (terminal_line m.lines) ≡ Some None) × ((is_port port ≡ true) × (is_taken port m.lines ≡ false))
+
+  pub attach-refused : slice_get m.lines terminal_place ≡ Some line → attaches_by line.port (is_taken port m.lines) tells port answer old line new after → IsRefused answer → with_line m terminal_place after ≡ m
   attach-refused at attaches refused = set-as m line after at (by line.port attaches)
     where
-      in-range : (b : Bool) → ranged b tells port answer old line new after → after ≡ line
-      in-range true tried = tried-same tried.result tried.answer_is tried.line_is refused
+      free : (b : Bool) → free_by b tells port answer old line new after → after ≡ line
+      free true untried = untried.line_is
+      free false tried = tried-same tried.result tried.answer_is tried.line_is refused
+
+      in-range : (b : Bool) → ranged b (is_taken port m.lines) tells port answer old line new after → after ≡ line
+      in-range true attaches = free (is_taken port m.lines) attaches
       in-range false untried = untried.line_is
 
-      by : (p : Option ℕ) → attaches_by p tells port answer old line new after → after ≡ line
+      by : (p : Option ℕ) → attaches_by p (is_taken port m.lines) tells port answer old line new after → after ≡ line
       by None attaches = in-range (is_port port) attaches
       by (Some p) untried = untried.line_is
 
-  pub attach-sent : attaches_by line.port tells port answer old line new after → new.sent ≡ old.sent
+  pub attach-sent : attaches_by line.port (is_taken port m.lines) tells port answer old line new after → new.sent ≡ old.sent
   attach-sent attaches = by line.port attaches
     where
-      in-range : (b : Bool) → ranged b tells port answer old line new after → new.sent ≡ old.sent
-      in-range true tried = tried.listened.sent
+      free : (b : Bool) → free_by b tells port answer old line new after → new.sent ≡ old.sent
+      free true untried = ap (λ (s : LineState). s.sent) untried.lines_are
+      free false tried = tried.listened.sent
+
+      in-range : (b : Bool) → ranged b (is_taken port m.lines) tells port answer old line new after → new.sent ≡ old.sent
+      in-range true attaches = free (is_taken port m.lines) attaches
       in-range false untried = ap (λ (s : LineState). s.sent) untried.lines_are
 
-      by : (p : Option ℕ) → attaches_by p tells port answer old line new after → new.sent ≡ old.sent
+      by : (p : Option ℕ) → attaches_by p (is_taken port m.lines) tells port answer old line new after → new.sent ≡ old.sent
       by None attaches = in-range (is_port port) attaches
       by (Some p) untried = ap (λ (s : LineState). s.sent) untried.lines_are
 
@@ -259,28 +300,33 @@ module _ (tells : Bool) (old new : LineState) (m : MachineState) (line after : L
       subst (λ (a : Answer). AttachCause tells a old new) (sym is)
       (record { listens = listened.listens; stands = listened.stands; behind = listened.behind; sent = listened.sent; counted = listened.counted }, listened.told)
 
-  pub attach-cause : attaches_by line.port tells port answer old line new after → AttachCause tells answer old new
+  pub attach-cause : attaches_by line.port (is_taken port m.lines) tells port answer old line new after → AttachCause tells answer old new
   attach-cause attaches = by line.port attaches
     where
-      in-range : (b : Bool) → ranged b tells port answer old line new after → AttachCause tells answer old new
-      in-range true tried = cause-of tried.result tried.answer_is tried.listened
+      free : (b : Bool) → free_by b tells port answer old line new after → AttachCause tells answer old new
+      free true untried = subst (λ (a : Answer). AttachCause tells a old new) (sym untried.answer_is) tt
+      free false tried = cause-of tried.result tried.answer_is tried.listened
+
+      in-range : (b : Bool) → ranged b (is_taken port m.lines) tells port answer old line new after → AttachCause tells answer old new
+      in-range true attaches = free (is_taken port m.lines) attaches
       in-range false untried = subst (λ (a : Answer). AttachCause tells a old new) (sym untried.answer_is) tt
 
-      by : (p : Option ℕ) → attaches_by p tells port answer old line new after → AttachCause tells answer old new
+      by : (p : Option ℕ) → attaches_by p (is_taken port m.lines) tells port answer old line new after → AttachCause tells answer old new
       by None attaches = in-range (is_port port) attaches
       by (Some p) untried = subst (λ (a : Answer). AttachCause tells a old new) (sym untried.answer_is) tt
 
-  -- want of memory comes only where a port within its range is wanted for a line that has none
-  pub attach-unrefused : slice_get m.lines terminal_place ≡ Some line → attaches_by line.port tells port answer old line new after → answer ≡ Err OutOfMemory
-      → (option_map (λ (l : LineOf ℕ). l.port) (terminal_line m.lines) ≡ Some None) × (is_port port ≡ true)
+  -- want of memory comes only where a port within its range that no line has is wanted for a line that has none
+  pub attach-unrefused : slice_get m.lines terminal_place ≡ Some line → attaches_by line.port (is_taken port m.lines) tells port answer old line new after → answer ≡ Err OutOfMemory → Unrefused
   attach-unrefused at attaches want = by line.port refl attaches
     where
-      in-range : (b : Bool) → is_port port ≡ b → line.port ≡ None → ranged b tells port answer old line new after
-          → (option_map (λ (l : LineOf ℕ). l.port) (terminal_line m.lines) ≡ Some None) × (is_port port ≡ true)
-      in-range true is none tried = (ap (option_map (λ (l : LineOf ℕ). l.port)) at ∙ ap Some none, is)
+      free : (b : Bool) → is_taken port m.lines ≡ b → is_port port ≡ true → line.port ≡ None → free_by b tells port answer old line new after → Unrefused
+      free true taken is none untried = absurd (let both : Err OutOfMemory ≡ Err PortTaken = sym want ∙ untried.answer_is in cc)
+      free false taken is none tried = (ap (option_map (λ (l : LineOf ℕ). l.port)) at ∙ ap Some none, (is, taken))
+
+      in-range : (b : Bool) → is_port port ≡ b → line.port ≡ None → ranged b (is_taken port m.lines) tells port answer old line new after → Unrefused
+      in-range true is none attaches = free (is_taken port m.lines) refl is none attaches
       in-range false is none untried = absurd (let both : Err OutOfMemory ≡ Err OutOfRange = sym want ∙ untried.answer_is in cc)
 
-      by : (p : Option ℕ) → line.port ≡ p → attaches_by p tells port answer old line new after
-          → (option_map (λ (l : LineOf ℕ). l.port) (terminal_line m.lines) ≡ Some None) × (is_port port ≡ true)
+      by : (p : Option ℕ) → line.port ≡ p → attaches_by p (is_taken port m.lines) tells port answer old line new after → Unrefused
       by None none attaches = in-range (is_port port) refl none attaches
       by (Some p) has untried = absurd (let both : Err OutOfMemory ≡ Err AlreadyAttached = sym want ∙ untried.answer_is in cc)

@@ -6,6 +6,7 @@ ghost use Rattle.host_lines.specs.Told.{IsFirst, record_in};
 ghost use Rattle.telnet_lines.specs.Line.{IsSettled};
 ghost use Rattle.telnet_lines.specs.Joined.{KeepsParties};
 ghost use Rattle.telnet_lines.specs.Many.{AreApart};
+ghost use Rattle.terminal_ports.specs.Ports.{is_taken};
 ghost use Rattle.unit_trait.specs.declared.kind.Kind.TheVariants.{Tti1};
 ghost use Rattle.scp_parser.specs.Command.{AttachPort};
 ghost use Rattle.unit_list.specs.Bus.{kinds_of};
@@ -23,12 +24,14 @@ ghost use Rattle.command_session.specs.Doing.{Does, IsOfPort, IsPlain, IsExitAns
 
 use command_session::{CommandFault, Next, Session, TERMINAL, close, hang_up};
 use host_lines::{Lines, ListenFault};
+use nova_machine::Machine;
 use std::alloc::Global;
 use telnet_lines::Line;
-use terminal_ports::listen_for;
+use terminal_ports::{is_taken, listen_for, owns};
 use unit_trait::Unit;
 
-/// ATTACH listens on a port, from 1 to 65535, for the second teletype. It prints nothing.
+/// ATTACH listens on a port, from 1 to 65535, for the second teletype, where no other line has that port. It prints
+/// nothing.
 pub fn attach_port<U: Unit, L: Lines>(
     alloc: Global,
     session: &mut Session<U>,
@@ -60,10 +63,11 @@ pub fn attach_port<U: Unit, L: Lines>(
     ensures slots { session.new.machine.slots ≡ session.old.machine.slots }
     ensures time { session.new.machine.time ≡ session.old.machine.time }
 {
+    let taken = has_taken(&session.machine, port);
     let Some(line) = session.machine.line(TERMINAL) else {
         return Err(CommandFault::NoSuchName);
     };
-    attach_line(alloc, line, port, lines)
+    attach_line(alloc, line, port, taken, lines)
 }
 
 /// DETACH drops the connection to the second teletype, where one stands, and gives up its port. It prints nothing.
@@ -133,15 +137,23 @@ pub fn disconnect<U: Unit, L: Lines>(
     disconnect_line(line, lines)
 }
 
-// ATTACH of a port to a line.
+// Whether a line of a machine has that port, the console line too.
+fn has_taken<U: Unit>(machine: &Machine<U>, port: u64) -> bool
+    ensures { result ≡ is_taken port machine.now.lines }
+{
+    owns(port, machine.console_at()) || is_taken(port, machine.lines())
+}
+
+// ATTACH of a port to a line, where another line has that port or none has.
 fn attach_line<L: Lines>(
     alloc: Global,
     line: &mut Line,
     port: u64,
+    taken: bool,
     lines: &mut L,
 ) -> Result<Next, CommandFault>
-    ensures told { attaches_by line.old.port L.tells port result (L.state lines.old) line.old (L.state lines.new)
-        line.new }
+    ensures told { attaches_by line.old.port taken L.tells port result (L.state lines.old) line.old
+        (L.state lines.new) line.new }
     ensures settled { OnOk result (IsSettled line.old) }
     ensures unasked { IsRefused result → (Unlistened result → ⊥) → lines.new ≡ lines.old }
     ensures answers { OfPort result }
@@ -152,6 +164,7 @@ fn attach_line<L: Lines>(
         return Err(CommandFault::AlreadyAttached);
     }
     match u16::try_from(port) {
+        Ok(1..) if taken => Err(CommandFault::PortTaken),
         Ok(port @ 1..) => match listen_for(alloc, line, port, lines) {
             Ok(()) => Ok(Next::Go),
             Err(ListenFault::Failed) => Err(CommandFault::PortFailed),

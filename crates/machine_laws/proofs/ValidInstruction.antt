@@ -18,8 +18,8 @@ use Rattle.nova_interrupts.specs.Interrupts.{no_interrupts, enabled, disabled, r
 use Rattle.nova_interrupts.specs.Requests.{first_asking, code_or_none, acknowledged}
 use Rattle.nova_memory.specs.Memory.{MemoryState, IsMemory, IsSize, get, put}
 use Rattle.nova_memory.specs.Address.{address}
-use Rattle.nova_memory.proofs.Chains.{put-size, put-rule}
-use Rattle.nova_memory.proofs.Keeps.{put-memory, address-memory, address-size, address-rule, address-low}
+use Rattle.nova_memory.proofs.Chains.{put-size}
+use Rattle.nova_memory.proofs.Keeps.{put-memory, address-memory, address-size, address-low}
 use Rattle.nova_processor.specs.Processor.{ProcessorState}
 use Rattle.nova_processor.specs.Instruction.{jump, memory_reference, arithmetic}
 use Rattle.nova_processor.specs.InputOutput.{input, past, tested, unanswered, multiply_divide}
@@ -54,13 +54,12 @@ follows-then m first second one two =
     record { valid = next.valid; taken = next.taken ∙ one.taken }
 
 pub processor-of : (m : MachineState) → ValidMachine m → IsProcessor m.processor
-processor-of m valid = record { memory = valid.memory; size = valid.size; rule = valid.rule; cpu = record { four = valid.cpu.four; words = valid.cpu.words; pc = valid.cpu.pc } }
+processor-of m valid = record { memory = valid.memory; size = valid.size; cpu = record { four = valid.cpu.four; words = valid.cpu.words; pc = valid.cpu.pc } }
 
 pub with-processor : (m : MachineState) (p : ProcessorState) → IsProcessor p → ValidMachine m → ValidMachine (record m { processor = p })
 with-processor m p now valid = record {
   memory = now.memory;
   size = now.size;
-  rule = now.rule;
   cpu = record { four = now.cpu.four; words = now.cpu.words; pc = now.cpu.pc };
   mask = valid.mask;
   switches = valid.switches;
@@ -78,7 +77,6 @@ with-ints m ints low valid = record {
   valid = record {
     memory = valid.memory;
     size = valid.size;
-    rule = valid.rule;
     cpu = valid.cpu;
     mask = low;
     switches = valid.switches;
@@ -100,7 +98,6 @@ ticked-keeps m valid = record {
   valid = record {
     memory = valid.memory;
     size = valid.size;
-    rule = valid.rule;
     cpu = valid.cpu;
     mask = valid.mask;
     switches = valid.switches;
@@ -123,10 +120,10 @@ executed-keeps f keeps m valid =
 
 -- ---- memory references
 
-with-memory : (m : MachineState) (memory : MemoryState) → IsMemory memory → memory.size ≡ m.processor.memory.size → memory.before ≡ m.processor.memory.before → ValidMachine m
+with-memory : (m : MachineState) (memory : MemoryState) → IsMemory memory → memory.size ≡ m.processor.memory.size → ValidMachine m
     → ValidMachine (with_memory m memory)
-with-memory m memory is same rule valid =
-    with-processor m (record m.processor { memory = memory }) (record { memory = is; size = subst IsSize (sym same) valid.size; rule = rule ∙ valid.rule; cpu = (processor-of m valid).cpu }) valid
+with-memory m memory is same valid =
+    with-processor m (record m.processor { memory = memory }) (record { memory = is; size = subst IsSize (sym same) valid.size; cpu = (processor-of m valid).cpu }) valid
 
 refer_to-keeps : (word : ℕ) (at : Option ℕ) → IfSome at (λ (a : ℕ). a < 2 ^ 15) → KeepsMachine (λ m. (refer_to word at m).machine)
 refer_to-keeps word None low m valid = stays m valid
@@ -139,8 +136,7 @@ refer-keeps word m valid =
     let reference = address p.memory word p.cpu.pc p.cpu.accumulators in
     let memory = address-memory p.memory word p.cpu.pc p.cpu.accumulators valid.memory in
     let size = address-size p.memory word p.cpu.pc p.cpu.accumulators in
-    let rule = address-rule p.memory word p.cpu.pc p.cpu.accumulators in
-    let next = refer_to-keeps word reference.address (address-low p.memory word p.cpu.pc p.cpu.accumulators) (with_memory m reference.memory) (with-memory m reference.memory memory size rule valid) in
+    let next = refer_to-keeps word reference.address (address-low p.memory word p.cpu.pc p.cpu.accumulators) (with_memory m reference.memory) (with-memory m reference.memory memory size valid) in
     record { valid = next.valid; taken = next.taken }
 
 -- ---- words of input and output
@@ -171,7 +167,6 @@ asked_unit-keeps code word m valid =
       valid = record {
         memory = now.memory;
         size = now.size;
-        rule = now.rule;
         cpu = record { four = now.cpu.four; words = now.cpu.words; pc = now.cpu.pc };
         mask = valid.mask;
         switches = valid.switches;
@@ -219,7 +214,6 @@ reset_devices-keeps m valid =
       valid = record {
         memory = valid.memory;
         size = valid.size;
-        rule = valid.rule;
         cpu = valid.cpu;
         mask = omega arith;
         switches = valid.switches;
@@ -319,10 +313,9 @@ enter-keeps m valid =
     let stored : IsMemory first = put-memory p.memory 0 p.cpu.pc valid.memory (omega arith) in
     let memory = address-memory first 0o2001 p.cpu.pc p.cpu.accumulators stored in
     let size = address-size first 0o2001 p.cpu.pc p.cpu.accumulators ∙ put-size p.memory 0 p.cpu.pc in
-    let rule = address-rule first 0o2001 p.cpu.pc p.cpu.accumulators ∙ put-rule p.memory 0 p.cpu.pc in
     let off = with-ints m (record m.ints { on = false }) valid.mask valid in
     let next = jump_to-keeps reference.address (address-low first 0o2001 p.cpu.pc p.cpu.accumulators) (with_memory (record m { ints = record m.ints { on = false } }) reference.memory)
-    (with-memory (record m { ints = record m.ints { on = false } }) reference.memory memory size rule off.valid) in
+    (with-memory (record m { ints = record m.ints { on = false } }) reference.memory memory size off.valid) in
     record { valid = next.valid; taken = next.taken }
 
 pub interrupt-keeps : (m : MachineState) → ValidMachine m → Follows m (interrupt m).machine

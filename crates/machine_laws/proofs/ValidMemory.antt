@@ -2,7 +2,7 @@
 use Rattle.std.proofs.Common.{◌≡◌, ◌∙◌, ℕ, zero, suc, ◌+◌, ◌*◌, ◌^◌, ◌<◌, Bool, true, false, List, drop, Option, Some, None, sym, subst, arith, replicate, ◌++◌}
 use Rattle.std.proofs.lemmas.Bool.{cond_both}
 use Rattle.nova_memory.specs.Memory.{MemoryState, IsMemory, IsSize, get, put}
-use Rattle.nova_memory.proofs.Chains.{put-size, put-rule}
+use Rattle.nova_memory.proofs.Chains.{put-size}
 use Rattle.nova_memory.proofs.Keeps.{put-memory, get-word}
 use Rattle.unit_trait.specs.declared.calls.Want.{Want}
 use Rattle.unit_trait.specs.declared.calls.Want.TheVariants as want
@@ -14,11 +14,10 @@ use Rattle.memory_transfer.specs.Tapes.{word_on_tape, block_put, bytes_on_tape, 
 use Rattle.nova_machine.specs.Valid.{AreBytes}
 use Rattle.machine_laws.proofs.ValidBytes.{byte-low, bytes-append, bytes-take, bytes-drop, bytes-zeros, bytes-overwritten}
 
--- a memory of a size that a machine may have, whose indirect references test bit 0 of the changed word
+-- a memory of a size that a machine may have
 pub record HasSize (m : MemoryState) : Type 0 where
   pub memory : IsMemory m
   pub size : IsSize m.size
-  pub rule : m.before ≡ false
 
 -- ---- a word
 
@@ -26,7 +25,6 @@ memory-put : (m : MemoryState) (a v : ℕ) → v < 2 ^ 16 → HasSize m → HasS
 memory-put m a v low is = record {
   memory = put-memory m a v is.memory low;
   size = subst IsSize (sym (put-size m a v)) is.size;
-  rule = put-rule m a v ∙ is.rule;
 }
 
 -- ---- words of a sector

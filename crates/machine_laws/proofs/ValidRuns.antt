@@ -85,7 +85,6 @@ unfolding new_machine reset_machine reset_devices
 new-valid us fit = record {
   memory = IsMemory-blank;
   size = record { step = refl; least = omega arith; most = omega arith };
-  rule = refl;
   cpu = record { four = refl; words = (omega arith, (omega arith, (omega arith, (omega arith, tt)))); pc = omega arith };
   mask = omega arith;
   switches = omega arith;

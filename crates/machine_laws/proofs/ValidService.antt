@@ -70,7 +70,6 @@ valid-events : (m : MachineState) (us : List UnitState) (es : List Event) → Al
 valid-events m us es fit sound listed is = record {
   memory = is.memory;
   size = is.size;
-  rule = is.rule;
   cpu = is.cpu;
   mask = is.mask;
   switches = is.switches;
@@ -156,11 +155,10 @@ sent-key s is = key-sent s.machine.time s.watch.sends is.watch.bytes
 valid-done : (fault : Option Failure) (key : Option ℕ) (a : Option Attachment) (files : List NamedBytes) (w : Want) (m : MachineState) → AreFiles files → ValidMachine m
     → ValidMachine (done_for fault key a files w m)
 valid-done fault key a files w m all is =
-    let memory = memory-hosted fault a files m.disk w m.processor.memory all is.disk (record { memory = is.memory; size = is.size; rule = is.rule }) in
+    let memory = memory-hosted fault a files m.disk w m.processor.memory all is.disk (record { memory = is.memory; size = is.size }) in
     record {
       memory = memory.memory;
       size = memory.size;
-      rule = memory.rule;
       cpu = is.cpu;
       mask = is.mask;
       switches = is.switches;

@@ -37,12 +37,10 @@ pub record IsByteName (name : List ℕ) : Type 0 where
 abbrev pub HasByteName : Option Held → Type 0
 HasByteName slot = IfSome slot (λ h. IsByteName h.attachment.name)
 
--- A machine: its memory is 0 past its size, its registers are in range, and the names of its files are of bytes. No command
--- gives it the other rule of the auto-index locations: bit 0 of the changed word is tested.
+-- A machine: its memory is 0 past its size, its registers are in range, and the names of its files are of bytes.
 pub record ValidMachine (m : MachineState) : Type 0 where
   pub memory : IsMemory m.processor.memory
   pub size : IsSize m.processor.memory.size
-  pub rule : m.processor.memory.before ≡ false
   pub cpu : ValidCpu m.processor.cpu
   pub mask : m.ints.mask < 2 ^ 16
   pub switches : m.sr < 2 ^ 16

@@ -71,10 +71,9 @@ impl Words {
         used
     }
 
-    /// The same through one of 20 to 37 (octal) whose word is tested before its change. It is a call of its own, so
-    /// that the other rule pays for the flag alone.
-    #[cold]
-    #[inline(never)]
+    /// The same through one of 20 to 37 (octal) whose word is tested before its change. It stands apart
+    /// and is no call: over one the host would keep PC elsewhere, and move it at each skip.
+    #[inline(always)]
     fn follow_by_old(&mut self, at: Addr, word: Word) -> Word
         ensures address { result % 2 ^ 15 ≡ changed at word % 2 ^ 15 }
         ensures ends { nat_lt result (2 ^ 15) ≡ nat_lt word (2 ^ 15) }

@@ -4,7 +4,7 @@ use Rattle.std.specs.Prelude.{slice_set, List}
 use Rattle.std.proofs.lemmas.Bool.{cond_both}
 use Rattle.nova_word.specs.Bits.{bits}
 use Rattle.nova_memory.specs.Memory.{IsMemory, IsSize, get, put}
-use Rattle.nova_memory.proofs.Chains.{put-size, put-rule}
+use Rattle.nova_memory.proofs.Chains.{put-size}
 use Rattle.nova_memory.proofs.Keeps.{get-word, put-memory}
 use Rattle.nova_alu.specs.Arithmetic.{loaded_accumulators, loaded_carry, skips_next}
 use Rattle.nova_alu.specs.MultiplyDivide.{multiplied, divided, divide_overflows}
@@ -41,21 +41,19 @@ cpu-set cpu i w word valid = cpu-keeps cpu (slice_set cpu.accumulators i w) cpu.
 
 -- ---- the processor
 
--- with a memory, of a size that one may have, whose indirect references test bit 0 of the changed word
+-- with a memory, of a size that one may have
 pub record IsProcessor (p : ProcessorState) : Type 0 where
   pub memory : IsMemory p.memory
   pub size : IsSize p.memory.size
-  pub rule : p.memory.before ≡ false
   pub cpu : IsCpu p.cpu
 
 with-cpu : (p : ProcessorState) (cpu : Cpu) → IsCpu cpu → IsProcessor p → IsProcessor (record p { cpu = cpu })
-with-cpu p cpu now valid = record { memory = valid.memory; size = valid.size; rule = valid.rule; cpu = now }
+with-cpu p cpu now valid = record { memory = valid.memory; size = valid.size; cpu = now }
 
 put-both : (p : ProcessorState) (cpu : Cpu) (a w : ℕ) → w < 2 ^ 16 → IsCpu cpu → IsProcessor p → IsProcessor (record p { cpu = cpu; memory = put p.memory a w })
 put-both p cpu a w word now valid = record {
   memory = put-memory p.memory a w valid.memory word;
   size = subst IsSize (sym (put-size p.memory a w)) valid.size;
-  rule = put-rule p.memory a w ∙ valid.rule;
   cpu = now;
 }
 

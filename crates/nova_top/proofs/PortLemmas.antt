@@ -4,10 +4,10 @@ use Rattle.std.proofs.lemmas.Option.{same_Some}
 use Rattle.host_lines.specs.State.{LineState}
 use Rattle.telnet_lines.specs.Line.{LineOf, unconnected}
 use Rattle.telnet_lines.specs.Many.{AreApart}
-use Rattle.terminal_ports.specs.Ports.{HaveNone}
+use Rattle.terminal_ports.specs.Ports.{HaveNone, HavePortsApart}
 use Rattle.nova_machine.specs.Machine.{MachineState, lines_for, line_count}
-use Rattle.command_session.specs.LinesLeft.{AreListened, AreSessionLines, LinesLeft}
-use Rattle.command_session.proofs.PortLemmas.{session-free}
+use Rattle.command_session.specs.LinesLeft.{AreListened, LinesLeft}
+use Rattle.command_session.proofs.PortLemmas.{apart-free}
 use Rattle.command_words.specs.Standard.{standard_units}
 use Rattle.nova_top.specs.Ends.{PortsAtEnd, LinesAtEnd}
 
@@ -44,7 +44,7 @@ apart-at-first s lines is = subst (λ (ls : List (LineOf ℕ)). AreApart s ls) (
 -- what a session has left that began so is left at the end
 ports-left : (tells : Bool) (old new : LineState) (lines : List (LineOf ℕ)) → LinesLeft tells old (lines_for standard_units) new lines → PortsAtEnd lines old new
 ports-left tells old new lines left =
-    let begins : AreSessionLines (lines_for standard_units) = session-free (lines_for standard_units) (begins-free first_count) in
+    let begins : HavePortsApart (lines_for standard_units) = apart-free (lines_for standard_units) (begins-free first_count) in
     record {
       count = left.many;
       session = left.session begins;

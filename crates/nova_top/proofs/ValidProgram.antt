@@ -8,7 +8,7 @@ use Rattle.nova_word.specs.Numbers.{number_read}
 use Rattle.nova_word.specs.Quoted.{quoted_read}
 use Rattle.nova_memory.specs.Memory.{MemoryState, IsMemory, IsSize, put}
 use Rattle.nova_memory.proofs.Keeps.{put-memory}
-use Rattle.nova_memory.proofs.Chains.{put-size, put-rule}
+use Rattle.nova_memory.proofs.Chains.{put-size}
 use Rattle.file_traits.specs.Lists.{NamedBytes}
 use Rattle.file_commands.specs.declared.note.Subject.TheVariants as subject
 use Rattle.file_commands.specs.Notes.{Note}
@@ -26,7 +26,7 @@ use Rattle.machine_laws.proofs.StayingValid.{runs-stay-valid, kinds-begin}
 use Rattle.machine_laws.proofs.ValidBytes.{AreFiles}
 use Rattle.nova_machine.proofs.Each.{every-append, every-take, every-drop}
 use Rattle.terminal_ports.specs.Ports.{HaveNone}
-use Rattle.command_session.proofs.PortLemmas.{session-free}
+use Rattle.command_session.proofs.PortLemmas.{apart-free}
 use Rattle.command_laws.specs.Valid.{IsProgramMachine}
 use Rattle.command_laws.proofs.ValidWatch.{read-bytes}
 use Rattle.command_laws.proofs.ValidMachines.{GivesWhole, whole-bytes, memory-valid}
@@ -198,16 +198,15 @@ unfolding words_behind
 behind-words x zero = tt
 behind-words x (suc count) = (omega arith, behind-words (next_number x) count)
 
--- a memory of the same size, with the same rule of its auto-index locations
+-- a memory of the same size
 record IsLike (before after : MemoryState) : Type 0 where
   memory : IsMemory after
   size : after.size ≡ before.size
-  rule : after.before ≡ before.before
 
 words-put : (before m : MemoryState) (at : ℕ) (words : List ℕ) → IsLike before m → AllByRecursion IsWord words → IsLike before (with_words m at words)
 words-put before m at [] is all = is
 words-put before m at (w ∷ words) is all =
-    words-put before (put m at w) (at + 1) words (record { memory = put-memory m at w is.memory all.0; size = put-size m at w ∙ is.size; rule = put-rule m at w ∙ is.rule }) all.1
+    words-put before (put m at w) (at + 1) words (record { memory = put-memory m at w is.memory all.0; size = put-size m at w ∙ is.size }) all.1
 
 filled-like : (number : ℕ) (m : MemoryState) → IsMemory m → IsLike m (filled number m)
 unfolding filled
@@ -215,7 +214,7 @@ filled-like number m is =
     let first = with_words m 0o1000 (words_behind number 4096) in
     let second = with_words first 0o11000 loop_words in
     words-put m second 0o76 count_words
-    (words-put m first 0o11000 loop_words (words-put m m 0o1000 (words_behind number 4096) (record { memory = is; size = refl; rule = refl }) (behind-words number 4096))
+    (words-put m first 0o11000 loop_words (words-put m m 0o1000 (words_behind number 4096) (record { memory = is; size = refl }) (behind-words number 4096))
     (omega arith, (omega arith, (omega arith, (omega arith, tt)))))
     (omega arith, (omega arith, tt))
 
@@ -223,7 +222,7 @@ workload-valid : (workload : Option ℕ) (m : MachineState) → ValidMachine m �
 workload-valid None m is = is
 workload-valid (Some number) m is =
     let like = filled-like number m.processor.memory is.memory in
-    memory-valid m (filled number m.processor.memory) is like.memory (subst IsSize (sym like.size) is.size) like.rule
+    memory-valid m (filled number m.processor.memory) is like.memory (subst IsSize (sym like.size) is.size)
 
 erased-names : (slots : List (Option Held)) → AllByRecursion HasByteName slots → AllByRecursion HasByteName (map unnumbered slots)
 erased-names [] all = tt
@@ -234,7 +233,6 @@ erased-valid : (m : MachineState) → ValidMachine m → ValidMachine (erased m)
 erased-valid m is = record {
   memory = is.memory;
   size = is.size;
-  rule = is.rule;
   cpu = is.cpu;
   mask = is.mask;
   switches = is.switches;
@@ -322,7 +320,7 @@ opening-good words options keys script files ahead input notes handed good =
           time = omega (arith, time);
           machine = fresh.own;
           count = length-map m.lines (renamed {Q = Peer} (λ _. Gone)) ∙ fresh.count;
-          ports = session-free (map (renamed {Q = Peer} (λ _. Gone)) m.lines) (none-seen m.lines fresh.free);
+          ports = apart-free (map (renamed {Q = Peer} (λ _. Gone)) m.lines) (none-seen m.lines fresh.free);
         };
         texts = record { few = omega arith; actions = tt; open_ = first.few; scripts = first.each };
         input = handed.read;

@@ -23,7 +23,8 @@ use Rattle.nova_machine.specs.Comes.{output}
 use Rattle.nova_machine.specs.LineChanges.{HasConnection, heard_with}
 use Rattle.command_session.specs.Live.{Live, Beyond}
 use Rattle.command_session.specs.Doing.{AllClosings}
-use Rattle.command_session.specs.LinesLeft.{HasPort, AreListened, AreSessionLines}
+use Rattle.command_session.specs.LinesLeft.{HasPort, AreListened}
+use Rattle.terminal_ports.specs.Ports.{HavePortsApart}
 use Rattle.scp_script.specs.Loop.{missed_for, given_for}
 use Rattle.scp_script.specs.Perform.{RunsShort}
 use Rattle.command_words.specs.declared.options.Options.{Options}
@@ -199,7 +200,7 @@ FilesAtEnd (Some m) old new = AllOpen m.slots new × Around m.slots old new
 -- faults has not fallen.
 pub record PortsAtEnd (lines : List (LineOf ℕ)) (old new : LineState) : Type 0 where
   pub count : length lines ≡ length (lines_for standard_units)
-  pub session : AreSessionLines lines
+  pub session : HavePortsApart lines
   pub listened : AreListened new lines
   pub ports : (port : ℕ) → IsTrue (new.listens port) → HasPort port lines ⊎ IsTrue (old.listens port)
   pub owned : (conn : ℕ) → IsTrue (new.stands conn) → HasConnection conn lines ⊎ IsTrue (old.stands conn)

@@ -1,46 +1,48 @@
-// A text by a small layout: five letters, a version, and up to three marks behind their number, each from 0 to 1000.
-ghost use Rattle.std.specs.Prelude.{◌≡◌, ◌++◌, ◌<◌, ◌^◌, ℕ, List, [], OnOk, nat_le, codes, length, map, refl};
-ghost use Rattle.byte_layouts.specs.Readers.{Reads, number, tested};
-ghost use Rattle.byte_layouts.specs.Layout.{One, Two, Head, Version, Number, text, reading, Fits};
+// A text by a small layout: five letters, a version, and up to three marks behind their number, each from 0 to 1000, and in
+// the first version from 0 to 9.
+ghost use Rattle.std.specs.Prelude.{◌≡◌, ◌++◌, ◌<◌, ◌^◌, ◌==◌, ℕ, List, [], OnOk, nat_le, codes, length, map, refl, if◌then◌else◌};
+ghost use Rattle.byte_layouts.specs.Readers.{Reads, number, tested, is_version_to};
+ghost use Rattle.byte_layouts.specs.Layout.{One, Two, Head, Version, Number, ◌&◌, text, reading, Fits};
 
 use crate::checked::holds;
 use byte_layouts::{
-    Cursor, Elements, FieldFault, Format, ListFormat, One, Reading, Three, Writes, put_u8, put_u16,
-    read_whole, write_list,
+    Cursor, Elements, FieldFault, Format, Known, ListFormat, Reading, Telling, Tells, Writes,
+    put_u8, put_u16, read_whole, write_list,
 };
 use std::alloc::{AllocError, Global};
 use std::test::Fail;
 
-struct HeadFormat;
+struct StartFormat;
 
-impl Format for HeadFormat {
-    type Item = ();
+impl Tells for StartFormat {
+    type Item = ((), u16);
 
-    ghost Value = { Unit {0} };
+    ghost Value = { Unit {0} × ℕ };
 
-    ghost view = { λ u. u };
+    ghost view = { λ v. v };
 
-    ghost layout = { λ before. Head (codes "MARKS") };
+    ghost layout = { λ known. Head (codes "MARKS") & Version (is_version_to 2) };
 
-    fn read(_alloc: Global, cursor: &mut Cursor, _before: &[()]) -> Result<(), FieldFault> {
-        cursor.head(b"MARKS")
+    ghost tells = { λ known v. record { version = v.1; count = 0 } };
+
+    fn read(_alloc: Global, cursor: &mut Cursor, _known: Known) -> Result<((), u16), FieldFault> {
+        cursor.head(b"MARKS")?;
+        Ok(((), cursor.version_to(2)?))
+    }
+
+    fn tell(_known: Known, start: &((), u16)) -> Known {
+        Known {
+            version: start.1,
+            count: 0,
+        }
     }
 }
 
-struct VersionFormat;
-
-impl Format for VersionFormat {
-    type Item = ();
-
-    ghost Value = { Unit {0} };
-
-    ghost view = { λ u. u };
-
-    ghost layout = { λ before. Version 258 };
-
-    fn read(_alloc: Global, cursor: &mut Cursor, _before: &[()]) -> Result<(), FieldFault> {
-        cursor.version(258)
-    }
+// The largest mark of a version.
+fn most(version: u16) -> u16
+    ensures { result ≡ (if version == 1 then 9 else 1000) }
+{
+    if version == 1 { 9 } else { 1000 }
 }
 
 struct MarkFormat;
@@ -52,29 +54,34 @@ impl Format for MarkFormat {
 
     ghost view = { λ n. n };
 
-    ghost layout = { λ before. Number Two (λ n. nat_le n 1000) };
+    ghost layout = { λ known before. Number Two (λ n. nat_le n (if known.version == 1 then 9 else 1000)) };
 
-    fn read(_alloc: Global, cursor: &mut Cursor, _before: &[u16]) -> Result<u16, FieldFault> {
-        cursor.u16_to(1000)
+    fn read(
+        _alloc: Global,
+        cursor: &mut Cursor,
+        known: Known,
+        _before: &[u16],
+    ) -> Result<u16, FieldFault> {
+        cursor.u16_to(most(known.version))
     }
 }
 
 impl Writes for MarkFormat {
-    fn write(mark: &u16, out: &mut Vec<u8>) -> Result<(), AllocError> {
+    fn write(mark: &u16, _known: Known, out: &mut Vec<u8>) -> Result<(), AllocError> {
         put_u16(out, *mark)
     }
 
-    ghost same_text = { λ before x. refl };
+    ghost same_text = { λ known before x. refl };
 
-    ghost same_fits = { λ before x fits. fits };
+    ghost same_fits = { λ known before x fits. fits };
 }
 
 impl ListFormat for MarkFormat {
     ghost size = { One };
 
-    ghost few = { λ n. nat_le n 3 };
+    ghost few = { λ known n. nat_le n 3 };
 
-    fn count(cursor: &mut Cursor) -> Result<u32, FieldFault> {
+    fn count(cursor: &mut Cursor, _known: Known) -> Result<u32, FieldFault> {
         Ok(u32::from(cursor.u8_to(3)?))
     }
 
@@ -83,18 +90,22 @@ impl ListFormat for MarkFormat {
     }
 }
 
-type Marks = Three<One<HeadFormat>, One<VersionFormat>, Elements<MarkFormat>>;
+type Marks = Telling<StartFormat, Elements<MarkFormat>>;
 
 fn written(alloc: Global) -> Result<Vec<u8>, AllocError> {
     let mut out = Vec::new(alloc);
     out.extend_from_slice(b"MARKS")?;
-    put_u16(&mut out, 258)?;
-    write_list::<MarkFormat>(&[1000, 7], &mut out)?;
+    put_u16(&mut out, 2)?;
+    let known = Known {
+        version: 2,
+        count: 0,
+    };
+    write_list::<MarkFormat>(&[1000, 7], known, &mut out)?;
     Ok(out)
 }
 
 fn whole(alloc: Global, bytes: &[u8]) -> Result<Vec<u16>, FieldFault> {
-    let (_, (_, marks)) = read_whole::<Marks>(alloc, bytes)?;
+    let (_, marks) = read_whole::<Marks>(alloc, bytes)?;
     Ok(marks)
 }
 
@@ -103,7 +114,7 @@ fn by_bytes(alloc: Global, bytes: &[u8]) -> Result<Vec<u16>, FieldFault> {
     for byte in bytes {
         reading.feed(&[*byte])?;
     }
-    let (_, (_, marks)) = reading.finish_whole()?;
+    let (_, marks) = reading.finish_whole()?;
     Ok(marks)
 }
 
@@ -119,8 +130,8 @@ fn says(alloc: Global, bytes: &[u8], expected: Result<&[u16], FieldFault>) -> bo
     is(whole(alloc, bytes), expected) && is(by_bytes(alloc, bytes), expected)
 }
 
-// The letters; 1 and 2 are the version, then how many marks stand behind it, and each mark has two bytes.
-const TEXT: &[u8] = b"MARKS\x01\x02\x02\x03\xe8\x00\x07";
+// The letters; 0 and 2 are the version, then how many marks stand behind it, and each mark has two bytes.
+const TEXT: &[u8] = b"MARKS\x00\x02\x02\x03\xe8\x00\x07";
 
 #[test]
 fn a_text_is_written_and_read(rt: HostRuntime) -> Result<(), Fail> {
@@ -139,40 +150,50 @@ fn a_text_that_is_cut_is_cut_short(rt: HostRuntime) {
 }
 
 /// What is wrong with bytes, these, and their first fault from the left.
-const FAULTS: [(&str, &[u8], FieldFault); 8] = [
+const FAULTS: [(&str, &[u8], FieldFault); 10] = [
     (
         "a byte behind two marks",
-        b"MARKS\x01\x02\x02\x03\xe8\x00\x07\x00",
+        b"MARKS\x00\x02\x02\x03\xe8\x00\x07\x00",
         FieldFault::BadField(12),
     ),
     (
         "a byte behind none",
-        b"MARKS\x01\x02\x00\x00",
+        b"MARKS\x00\x02\x00\x00",
         FieldFault::BadField(8),
     ),
     (
         "the last mark",
-        b"MARKS\x01\x02\x02\x03\xe8\x03\xe9",
+        b"MARKS\x00\x02\x02\x03\xe8\x03\xe9",
         FieldFault::BadField(10),
     ),
     (
         "the first mark, and it is cut",
-        b"MARKS\x01\x02\x02\x03\xe9",
+        b"MARKS\x00\x02\x02\x03\xe9",
         FieldFault::BadField(8),
     ),
     (
         "how many marks",
-        b"MARKS\x01\x02\x04",
+        b"MARKS\x00\x02\x04",
         FieldFault::BadField(7),
     ),
     (
-        "the version, and how many",
-        b"MARKS\x02\x01\x04",
-        FieldFault::Version(513),
+        "a later version, and how many",
+        b"MARKS\x00\x03\x04",
+        FieldFault::Version(3),
+    ),
+    (
+        "no version, and how many",
+        b"MARKS\x00\x00\x04",
+        FieldFault::Version(0),
+    ),
+    (
+        "a mark of the second version in the first one",
+        b"MARKS\x00\x01\x02\x00\x09\x00\x0a",
+        FieldFault::BadField(10),
     ),
     (
         "a letter, and the version",
-        b"MARKs\x02\x01",
+        b"MARKs\x03\x01",
         FieldFault::NotHead,
     ),
     ("the one letter", b"m", FieldFault::NotHead),

@@ -10,7 +10,7 @@ use Rattle.operand_forms.specs.declared.listing.Test.{Test}
 use Rattle.scp_parser.specs.declared.command.Piece.{Piece}
 use Rattle.scp_parser.specs.declared.command.Verb.{Verb}
 use Rattle.scp_parser.specs.declared.command.Verb.TheVariants as verb
-use Rattle.scp_parser.specs.Command.{Request, Examine, Deposit, Reset, Break, NoBreak, Expect, NoExpect, Send, NoSend, SetSize, Show, Assert, Echo, piece_of, request_of, given_text, given_quoted}
+use Rattle.scp_parser.specs.Command.{Request, Examine, Deposit, Reset, Break, NoBreak, Expect, NoExpect, Send, NoSend, SetSize, SetAutobit, Show, Assert, Echo, piece_of, request_of, given_text, given_quoted}
 use Rattle.expect_actions.specs.Expects.{most_expects}
 use Rattle.expect_actions.specs.Sends.{most_sends}
 use Rattle.scp_examine.specs.declared.fault.ExamineFault.{ExamineFault}
@@ -30,7 +30,7 @@ use Rattle.command_session.specs.RunEffects.{last_address}
 use Rattle.command_session.specs.WatchEffects.{largest_count, text_of_quoted, lacks_room_for_break, can_be_expected}
 use Rattle.command_session.specs.WatchEffects.{break_reply, no_break_reply, expect_reply, no_expect_reply, send_reply, no_send_reply}
 use Rattle.plain_commands.specs.ShowEffects.{show_reply}
-use Rattle.plain_commands.specs.SetEffects.{set_size_reply}
+use Rattle.plain_commands.specs.SetEffects.{set_size_reply, set_autobit_reply}
 use Rattle.plain_commands.specs.ScriptEffects.{test_answer, echo_reply, assert_reply, goto_reply}
 use Rattle.command_session.specs.Nature.{IsUntold}
 use Rattle.plain_commands.specs.UntoldEffect.{untold_effect}
@@ -168,6 +168,10 @@ pub set_size-no-file : (live : Live) (k : ℕ) → IsOfNoFile (set_size_reply li
 unfolding set_size_reply
 set_size-no-file live k = no-file-if (fits_size k) _ _ tt tt
 
+pub set_autobit-no-file : (live : Live) (before : Bool) → IsOfNoFile (set_autobit_reply live before).answer
+unfolding set_autobit_reply
+set_autobit-no-file live before = tt
+
 pub echo-no-file : (live : Live) (text : List ℕ) → IsOfNoFile (echo_reply live text).answer
 unfolding echo_reply
 echo-no-file live text = tt
@@ -207,6 +211,7 @@ pub record IsNoUntold (v : Verb) : Type 0 where
   pub send : (after delay : ℕ) (text : Piece) → v ≡ verb.Send after delay text → ⊥
   pub no_send : v ≡ verb.NoSend → ⊥
   pub set_size : (k : ℕ) → v ≡ verb.SetSize k → ⊥
+  pub set_autobit : (before : Bool) → v ≡ verb.SetAutobit before → ⊥
   pub show : (subject : Shown) → v ≡ verb.Show subject → ⊥
   pub goto : (label : Piece) → v ≡ verb.Goto label → ⊥
   pub assert : (test : Test) → v ≡ verb.Assert test → ⊥
@@ -239,6 +244,7 @@ no-other line verb.NoExpect untold o = absurd (o.no_expect refl)
 no-other line (verb.Send after delay text) untold o = absurd (o.send after delay text refl)
 no-other line verb.NoSend untold o = absurd (o.no_send refl)
 no-other line (verb.SetSize k) untold o = absurd (o.set_size k refl)
+no-other line (verb.SetAutobit before) untold o = absurd (o.set_autobit before refl)
 no-other line (verb.Show subject) untold o = absurd (o.show subject refl)
 no-other line (verb.Goto label) untold o = absurd (o.goto label refl)
 no-other line (verb.Assert test) untold o = absurd (o.assert test refl)
@@ -261,6 +267,7 @@ untold-no-file live NoExpect = no_expect-no-file live
 untold-no-file live (Send after delay text) = send-no-file live after delay text
 untold-no-file live NoSend = no_send-no-file live
 untold-no-file live (SetSize k) = set_size-no-file live k
+untold-no-file live (SetAutobit before) = set_autobit-no-file live before
 untold-no-file live (Show subject) = show-no-file live subject
 untold-no-file live (Assert test) = assert-no-file live test
 untold-no-file live (Echo text) = echo-no-file live text

@@ -1,5 +1,5 @@
 -- SHOW.
-use Rattle.std.specs.Prelude.{ℕ, ◌/◌, List, [], ◌∷◌, ◌++◌, codes, decimal, if◌then◌else◌}
+use Rattle.std.specs.Prelude.{ℕ, ◌/◌, Bool, List, [], ◌∷◌, ◌++◌, codes, decimal, if◌then◌else◌}
 use Rattle.unit_trait.specs.declared.kind.UnitName.{UnitName}
 use Rattle.unit_trait.specs.Kinds.{unit_name}
 use Rattle.event_queue.specs.EventList.{Event}
@@ -17,9 +17,18 @@ use Rattle.plain_commands.specs.WatchTexts.{breaks_text, expects_text, sends_tex
 abbrev pub time_text : MachineState → List ℕ
 time_text m = codes "Time: " ++ decimal m.time ++ 10 ∷ []
 
--- what SHOW CPU prints: the size of memory, in units of 1024 words
+-- whether bit 0 of an auto-index word is tested before its change
+abbrev pub rule_text : Bool → List ℕ
+rule_text before = if before then codes ", autobit before" else []
+
+-- what SHOW CPU prints: the size of memory, in units of 1024 words, and that rule where it is chosen
 abbrev pub cpu_text : MachineState → List ℕ
-cpu_text m = codes "CPU, " ++ decimal (m.processor.memory.size / 1024) ++ codes "K" ++ 10 ∷ []
+cpu_text m =
+    codes "CPU, "
+    ++ decimal (m.processor.memory.size / 1024)
+    ++ codes "K"
+    ++ rule_text m.processor.memory.before
+    ++ 10 ∷ []
 
 -- what SHOW VERSION prints
 abbrev pub version_text : List ℕ

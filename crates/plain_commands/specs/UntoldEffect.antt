@@ -1,6 +1,6 @@
 -- What the commands do that work on no file and no line.
 use Rattle.std.specs.Prelude.{◌≡◌, ℕ, true, List, Ok, Err}
-use Rattle.scp_parser.specs.Command.{Request, Examine, Deposit, Reset, Break, NoBreak, Expect, NoExpect, Send, NoSend, SetSize, Show, Goto, Assert, Echo}
+use Rattle.scp_parser.specs.Command.{Request, Examine, Deposit, Reset, Break, NoBreak, Expect, NoExpect, Send, NoSend, SetSize, SetAutobit, Show, Goto, Assert, Echo}
 use Rattle.command_session.specs.declared.next.Next.TheVariants.{Ran}
 use Rattle.command_session.specs.declared.fault.CommandFault.TheVariants.{PortFailed}
 use Rattle.command_session.specs.Live.{Live, CommandState}
@@ -10,7 +10,7 @@ use Rattle.command_session.specs.Refusals.{IsUnrefused}
 use Rattle.command_session.specs.RunEffects.{reset_reply}
 use Rattle.command_session.specs.WatchEffects.{break_reply, no_break_reply, expect_reply, no_expect_reply, send_reply, no_send_reply}
 use Rattle.plain_commands.specs.ListEffects.{examine_reply, deposit_reply}
-use Rattle.plain_commands.specs.SetEffects.{set_size_reply}
+use Rattle.plain_commands.specs.SetEffects.{set_size_reply, set_autobit_reply}
 use Rattle.plain_commands.specs.ShowEffects.{show_reply}
 use Rattle.plain_commands.specs.ScriptEffects.{goto_reply, echo_reply, assert_reply}
 
@@ -26,6 +26,7 @@ untold_effect live NoExpect = no_expect_reply live
 untold_effect live (Send after delay text) = send_reply live after delay text
 untold_effect live NoSend = no_send_reply live
 untold_effect live (SetSize k) = set_size_reply live k
+untold_effect live (SetAutobit before) = set_autobit_reply live before
 untold_effect live (Show subject) = show_reply live subject
 untold_effect live (Assert test) = assert_reply live test
 untold_effect live (Echo text) = echo_reply live text

@@ -5,7 +5,7 @@ ghost use Rattle.unit_list.specs.Bus.{kinds_of};
 ghost use Rattle.nova_machine.specs.Machine.{attached_files};
 ghost use Rattle.nova_machine.specs.Comes.{Output};
 ghost use Rattle.command_session.specs.Live.{standing, live_in, Beyond};
-ghost use Rattle.plain_commands.specs.SetEffects.{sized, set_size_reply};
+ghost use Rattle.plain_commands.specs.SetEffects.{sized, ruled, set_size_reply, set_autobit_reply};
 ghost use Rattle.command_session.specs.Doing.{Does, IsPlain, IsExitAnswer, IsRefused};
 
 use command_session::{CommandFault, Next, Session};
@@ -42,4 +42,34 @@ fn resize<U: Unit>(machine: &mut Machine<U>, k: u64)
     ensures { machine.new ≡ sized machine.old k }
 {
     machine.memory_mut().set_size((1024 * k) as u16);
+}
+
+/// SET CPU AUTOBIT lets an indirect reference through an auto-index location test bit 0 of the word there before its
+/// change, or else of the changed word. It is refused for nothing, and prints nothing.
+pub fn set_autobit<U: Unit>(
+    session: &mut Session<U>,
+    before: bool,
+) -> Result<Next, CommandFault>
+    ensures refused { IsRefused result
+        → (session.new.machine ≡ session.old.machine) × (session.new.watch ≡ session.old.watch) }
+    ensures told { (files : Beyond) (tells : Bool) (text : Output)
+        → Does (set_autobit_reply (live_in session.old files) before) result (standing 0 (live_in session.new files))
+        tells text text }
+    ensures own { IsPlain result }
+    ensures exit { IsExitAnswer result }
+    ensures rest { session.new ≡ record session.old { machine = session.new.machine } }
+    ensures kinds { kinds_of session.new.machine.units ≡ kinds_of session.old.machine.units }
+    ensures attached { attached_files session.new.machine ≡ attached_files session.old.machine }
+    ensures time { session.new.machine.time ≡ session.old.machine.time }
+    ensures terminals { session.new.machine.lines ≡ session.old.machine.lines }
+{
+    choose_rule(&mut session.machine, before);
+    Ok(Next::Go)
+}
+
+// Chooses whether a machine tests bit 0 of an auto-index word before its change.
+fn choose_rule<U: Unit>(machine: &mut Machine<U>, before: bool)
+    ensures { machine.new ≡ ruled machine.old before }
+{
+    machine.memory_mut().set_autobit(before);
 }

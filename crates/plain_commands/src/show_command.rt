@@ -1,5 +1,5 @@
 // SHOW.
-ghost use Rattle.std.specs.Prelude.{◌<◌, ◌++◌, ◌∷◌, ℕ, List, [], Some, IsTrue, codes, decimal};
+ghost use Rattle.std.specs.Prelude.{◌≡◌, ◌<◌, ◌++◌, ◌∷◌, ℕ, List, [], Some, IsTrue, codes, decimal};
 ghost use Rattle.fault_counts.specs.Faults.{CountsFault};
 ghost use Rattle.file_traits.specs.Streams.{Puts};
 ghost use Rattle.unit_trait.specs.Kinds.{units_of};
@@ -14,7 +14,7 @@ ghost use Rattle.nova_machine.specs.Comes.{output};
 ghost use Rattle.command_session.specs.Live.{standing, live_in, Beyond};
 ghost use Rattle.command_session.specs.FileEffects.{attachment_text, unit_line};
 ghost use Rattle.command_session.specs.LineEffects.{is_terminal, terminal_line, line_text, show_line};
-ghost use Rattle.plain_commands.specs.ShowEffects.{time_text, cpu_text, version_text, event_line, queue_text, show_reply};
+ghost use Rattle.plain_commands.specs.ShowEffects.{time_text, rule_text, cpu_text, version_text, event_line, queue_text, show_reply};
 ghost use Rattle.command_session.specs.Doing.{Does, ConsoleCounts, IsShown, IsExitAnswer};
 
 use crate::show_watch::{put_breaks, put_expects, put_sends};
@@ -234,8 +234,19 @@ fn put_cpu<U: Unit, S: Sink>(machine: &Machine<U>, out: &mut S) -> Result<(), Fa
     ensures counts { CountsFault (S.fault_count out.old) (S.fault_count out.new) result }
 {
     let size = machine.memory().size() / 1024;
+    let rule = rule_text(machine.memory().autobit());
     let mut buffer = Buffer::new();
-    put_pieces(out, &[b"CPU, ", buffer.format(size).as_bytes(), b"K\n"])
+    put_pieces(
+        out,
+        &[b"CPU, ", buffer.format(size).as_bytes(), b"K", rule, b"\n"],
+    )
+}
+
+// Whether bit 0 of an auto-index word is tested before its change.
+fn rule_text(before: bool) -> &'static [u8]
+    ensures { result.now ≡ rule_text before }
+{
+    if before { b", autobit before" } else { b"" }
 }
 
 // Prints the name and the version of the program.

@@ -17,7 +17,7 @@ ghost use Rattle.plain_commands.specs.UntoldEffect.{untold_effect, IsUntoldAnswe
 use crate::list_commands::{deposit_list, examine_list};
 use crate::reset_command::reset;
 use crate::script_commands::{assert_condition, echo};
-use crate::set_command::set_size;
+use crate::set_command::{set_autobit, set_size};
 use crate::show_command::show;
 use crate::watch_commands::{
     add_break, add_expect, remove_breaks, remove_expects, remove_sends, send,
@@ -99,6 +99,7 @@ fn do_untold<U: Unit, S: Sink>(
         Verb::Send { after, delay, .. } => send(session, *after, *delay, command.quoted()),
         Verb::NoSend => remove_sends(session),
         Verb::SetSize(k) => set_size(session, *k),
+        Verb::SetAutobit(before) => set_autobit(session, *before),
         Verb::Show(subject) => show(session, *subject, out),
         Verb::Goto(_) => Ok(Next::Goto),
         Verb::Assert(what) => assert_condition(session, what),

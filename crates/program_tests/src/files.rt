@@ -91,12 +91,12 @@ fails=4
 words=-q -k k s a b | before=k: & s:ECHO %1-%2~ | fails=4 | prints=Cannot open s~ | status=101 | note=0 0 Length 0";
 
 /// A call fails, and what it was for is said again: an opening, a length, the opening and the write of a state file, a byte
-/// of the console, and a read of the input. A state file has 65905 bytes.
+/// of the console, and a read of the input. A state file has 65910 bytes.
 const SAID_AGAIN: &str =
     "lines=ATTACH PTR p~ | fails=0 | prints=File error~ | note=1 0 Opening 0 PTR | after=p
 lines=ATTACH PTR p~ATTACH PTR p~SHOW PTR~ | fails=2 | prints=File error~PTR, attached to p~ | note=1 0 Length 0 PTR | after=p:
-lines=SAVE s~SAVE s~ATTACH LPT s~E LPT POS~ | fails=0 | prints=File error~POS:\t000200561~ | note=1 0 Opening 0 State
-lines=SAVE s~RESTORE s~ | fails=1 10 | prints=File error~State file truncated~ | note=1 0 Write 10 State | after=s:NOVASTAT\0\x01
+lines=SAVE s~SAVE s~ATTACH LPT s~E LPT POS~ | fails=0 | prints=File error~POS:\t000200566~ | note=1 0 Opening 0 State
+lines=SAVE s~RESTORE s~ | fails=1 10 | prints=File error~State file truncated~ | note=1 0 Write 10 State | after=s:NOVASTAT\0\x02
 lines=ECHO a~D 0 1~ | room=0 | prints= | status=102 | cells=0:0
 lines= | read=0 | prints= | status=106";
 

@@ -75,6 +75,31 @@ fn a_session_goes_on_where_another_was_saved(rt: HostRuntime) -> Result<(), Fail
     Ok(())
 }
 
+/// Each state fits.
+const ROOMY: &str = "words=-q | space=70000";
+
+/// Interrupts are on, and held for one instruction more.
+const HELD: &str =
+    "lines=D 1 200~D 100 60177~D 101 101000~D 102 101000~D 200 63077~D TTO DONE 1~D PC 100~STEP~SAVE s1~STEP~STEP~E 0~ | prints=~Step expired, PC: 00101 (101000)~~Step expired, PC: 00102 (101000)~~HALT instruction, PC: 00201 (000000)~00000:\t000102~
+lines=RESTORE s1~STEP~STEP~E 0~ | prints=~Step expired, PC: 00102 (101000)~~HALT instruction, PC: 00201 (000000)~00000:\t000102~";
+
+/// Two events are due at one time.
+const TIED: &str =
+    "lines=D 100 60111~D 101 60113~D 102 400~D TTO TIME 10~D PTP TIME 7~D TTO BUF 101~D PTP STOP_IOE 1~D PC 100~STEP 3~SHOW QUEUE~SAVE s1~ | prints=~Step expired, PC: 00102 (000400)~TTO 5~PTP 5~TTI 97~TTI1 97~
+lines=RESTORE s1~CONT~ | prints=A~No file attached to PTP, PC: 00102 (000400)~";
+
+/// An auto-index word is tested before its change, also where a new session has not chosen that.
+const RULED: &str = "lines=SET CPU AUTOBIT=BEFORE~SAVE s1~ | prints=
+lines=SHOW CPU~RESTORE s1~SHOW CPU~D 123 456~D 20 177777~D 0 123~D 100 22020~D PC 100~STEP~E 20,AC0~ | prints=CPU, 32K~CPU, 32K, autobit before~~Step expired, PC: 00101 (000000)~00020:\t000000~AC0:\t000456~";
+
+#[test]
+fn what_is_held_due_or_chosen_is_saved(rt: HostRuntime) -> Result<(), Fail> {
+    in_turn(&rt, rt.alloc(), ROOMY, HELD)?;
+    in_turn(&rt, rt.alloc(), ROOMY, TIED)?;
+    in_turn(&rt, rt.alloc(), ROOMY, RULED)?;
+    Ok(())
+}
+
 /// The write of the state is call 9 of the first session.
 const UNSAVED: &str = "words=-q -l 500 | space=70000 | fails=9 8";
 

@@ -6,6 +6,8 @@ mod callers;
 #[cfg(test)]
 mod checked;
 #[cfg(test)]
+mod console;
+#[cfg(test)]
 mod counted;
 #[cfg(test)]
 mod counted_ports;

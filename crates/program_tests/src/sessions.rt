@@ -34,6 +34,14 @@ lines=D AC0 101~D 100 61111~D 101 63611~D 102 777~D 103 63077~GO 100~SHOW TIME~S
 lines=DEPOSIT AC0 177777~DEPOSIT 100 101400~DEPOSIT 101 63077~GO 100~EXAMINE AC0~EXAMINE C~SHOW TIME~ | prints=~HALT instruction, PC: 00102 (000000)~AC0:\t000000~C:\t1~Time: 2~
 ; auto-index through 20, whose changed word is the address
 lines=DEPOSIT 20 177777~DEPOSIT 0 123~DEPOSIT 100 22020~DEPOSIT PC 100~STEP~EXAMINE 20~EXAMINE AC0~ | prints=~Step expired, PC: 00101 (000000)~00020:\t000000~AC0:\t000123~
+; the choice of the other rule, by which bit 0 is tested before the change: 177777 leads on, and 077777 does not
+lines=SET CPU AUTOBIT=BEFORE~D 123 456~D 20 177777~D 0 123~D 100 22020~D PC 100~STEP~E 20,AC0~ | prints=~Step expired, PC: 00101 (000000)~00020:\t000000~AC0:\t000456~
+lines=SET CPU AUTOBIT=BEFORE~D 123 456~D 20 77777~D 0 123~D 100 22020~D PC 100~STEP~E 20,AC0~ | prints=~Step expired, PC: 00101 (000000)~00020:\t100000~AC0:\t000123~
+; and back
+lines=SET CPU AUTOBIT=BEFORE~SET CPU AUTOBIT=AFTER~D 20 177777~D 0 123~D 100 22020~D PC 100~STEP~E 20,AC0~ | prints=~Step expired, PC: 00101 (000000)~00020:\t000000~AC0:\t000123~
+; a reset and another size of memory leave it
+lines=set cpu autobit=before~RESET~SHOW CPU~SET CPU 8K~SHOW CPU~SET CPU AUTOBIT=after~SHOW CPU~ | prints=CPU, 32K, autobit before~CPU, 8K, autobit before~CPU, 8K~
+lines=SET CPU AUTOBIT=X~SET CPU AUTOBIT~SET CPU AUTOBIT=BEFORE 1~SHOW CPU~ | prints=Invalid name at 8~Invalid name at 8~Too many arguments at 23~CPU, 32K~
 ; a chain without end
 lines=DEPOSIT 100 100100~DEPOSIT 200 2100~GO 200~SHOW TIME~ | prints=~Indirect chain limit, PC: 00200 (002100)~Time: 0~
 ; MUL, and DIV that overflows

@@ -206,6 +206,7 @@ by-result (Err (fault.Failed x)) f attached files n first said calls h =
     fault-ends (failure_in x) f attached files n first said calls.0 h
 by-result (Err (fault.NoFile unit)) f attached files n first said calls h = absurd calls
 by-result (Err (fault.TooLong unit)) f attached files n first said calls h = absurd calls
+by-result (Err fault.MissingUnit) f attached files n first said calls h = absurd calls
 by-result (Err fault.Port) f attached files n first said calls h = absurd calls
 by-result (Err fault.OutOfMemory) f attached files n first said calls h = absurd calls
 

@@ -232,6 +232,7 @@ compared-counts (fault.Failed f) unit slots old new calls cause file =
 compared-counts (fault.NoFile u) unit slots old new calls cause file = absurd calls
 compared-counts (fault.TooLong u) unit slots old new calls cause file = absurd calls
 compared-counts (fault.Changed u) unit slots old new calls cause file = ap (λ (f : ℕ → ℕ). f file) cause.counts
+compared-counts fault.MissingUnit unit slots old new calls cause file = absurd calls
 compared-counts fault.Port unit slots old new calls cause file = absurd calls
 compared-counts fault.OutOfMemory unit slots old new calls cause file = absurd calls
 

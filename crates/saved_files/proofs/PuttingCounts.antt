@@ -230,6 +230,7 @@ module _ (tells : Bool) (a b c d : FileState) (first : RestoreCause tells (Ok tt
   cause-behind (fault.NoFile unit) h = (λ untold. wider-rose (h.0 untold), wider-stand h.1)
   cause-behind (fault.TooLong unit) h = (wider-opened h.0, wider-stand h.1)
   cause-behind (fault.Changed unit) h = (wider-opened h.0, wider-stand h.1)
+  cause-behind fault.MissingUnit h = h
   cause-behind fault.Port h = h
   cause-behind fault.OutOfMemory h = tt
 
@@ -277,6 +278,7 @@ module _ (tells : Bool) (slots slots' : List (Option Held)) (unit : UnitName) (a
   cause-compared (fault.NoFile u) calls h = absurd calls
   cause-compared (fault.TooLong u) calls h = absurd calls
   cause-compared (fault.Changed u) calls h = (still-opened h.ids, λ t. openings ∙ h.openings ∙ first.1 t)
+  cause-compared fault.MissingUnit calls h = absurd calls
   cause-compared fault.Port calls h = absurd calls
   cause-compared fault.OutOfMemory calls h = absurd calls
 
@@ -288,6 +290,7 @@ compared-plainly force (fault.Failed f) is = tt
 compared-plainly force (fault.NoFile unit) is = tt
 compared-plainly force (fault.TooLong unit) is = tt
 compared-plainly force (fault.Changed unit) is = is
+compared-plainly force fault.MissingUnit is = tt
 compared-plainly force fault.Port is = tt
 compared-plainly force fault.OutOfMemory is = tt
 
@@ -300,5 +303,6 @@ session-cause tells (fault.Failed f) old new h = h
 session-cause tells (fault.NoFile unit) old new h = h
 session-cause tells (fault.TooLong unit) old new h = h
 session-cause tells (fault.Changed unit) old new h = h
+session-cause tells fault.MissingUnit old new h = absurd h
 session-cause tells fault.Port old new h = absurd h
 session-cause tells fault.OutOfMemory old new h = h

@@ -56,6 +56,7 @@ compared-named tells (fault.Failed f) calls = reading-named f.call calls.0
 compared-named tells (fault.Changed unit) calls = refl
 compared-named tells (fault.NoFile unit) calls = absurd calls
 compared-named tells (fault.TooLong unit) calls = absurd calls
+compared-named tells fault.MissingUnit calls = absurd calls
 compared-named tells fault.Port calls = absurd calls
 compared-named tells fault.OutOfMemory calls = absurd calls
 

@@ -72,6 +72,7 @@ module _ (force : Bool) (f : FilePart) (fs all : List FilePart) (attached : List
       stopped (Some (x.unit, failure_in x)) (Some (failure_in x)) (CallFails (failure_in x))
       (ap (λ (b : Bool). cond b (Some (failure_in x)) None) same) said
       ∙ ap (λ (u : UnitName). Some (u, CallFails (failure_in x))) (sym mine)
+  first-said fault.MissingUnit mine said = absurd mine
   first-said fault.Port mine said = absurd mine
   first-said fault.OutOfMemory mine said = tt
 
@@ -109,6 +110,7 @@ first-of-these f fs all e is mine = subst (λ (l : List FilePart). IsOfThese l e
     here (fault.TooLong u) mine = inl mine
     here (fault.Changed u) mine = inl mine
     here (fault.Failed x) mine = inl mine
+    here fault.MissingUnit mine = mine
     here fault.Port mine = mine
     here fault.OutOfMemory mine = tt
 
@@ -121,6 +123,7 @@ others-of-these f fs all e is these = subst (λ (l : List FilePart). IsOfThese l
     there (fault.TooLong u) these = inr these
     there (fault.Changed u) these = inr these
     there (fault.Failed x) these = inr these
+    there fault.MissingUnit these = these
     there fault.Port these = these
     there fault.OutOfMemory these = tt
 
@@ -158,6 +161,7 @@ not-claimed f fs (fault.NoFile u) apart these = refl
 not-claimed f fs (fault.TooLong u) apart these = refl
 not-claimed f fs (fault.Changed u) apart these = refl
 not-claimed f fs (fault.Failed x) apart these = not-theirs f fs x.unit (failure_in x) apart these
+not-claimed f fs fault.MissingUnit apart these = refl
 not-claimed f fs fault.Port apart these = refl
 not-claimed f fs fault.OutOfMemory apart these = refl
 

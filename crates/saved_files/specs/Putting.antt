@@ -111,6 +111,7 @@ said_in (fault.NoFile unit) = Some (unit, IsMissing)
 said_in (fault.TooLong unit) = Some (unit, IsTooLong)
 said_in (fault.Changed unit) = Some (unit, HasChanged)
 said_in (fault.Failed f) = Some (f.unit, CallFails (failure_in f))
+said_in fault.MissingUnit = None
 said_in fault.Port = None
 said_in fault.OutOfMemory = None
 
@@ -119,10 +120,11 @@ abbrev pub claim_in : Result (Unit {0}) RestoreFault → Option (UnitName × Fai
 claim_in (Err (fault.Failed f)) = Some (f.unit, failure_in f)
 claim_in result = None
 
--- An answer says exactly that, where memory did not run out. No port is listened on.
+-- An answer says exactly that, where memory did not run out. No unit is looked for, and no port is listened on.
 abbrev pub Says : Result (Unit {0}) RestoreFault → Option (UnitName × FileRefusal) → Type 0
 Says (Ok u) said = said ≡ None
 Says (Err fault.OutOfMemory) said = Unit {0}
+Says (Err fault.MissingUnit) said = ⊥
 Says (Err fault.Port) said = ⊥
 Says (Err f) said = said ≡ said_in f
 
@@ -137,16 +139,20 @@ IsOfThese fs (fault.NoFile unit) = IsUnitOf fs unit
 IsOfThese fs (fault.TooLong unit) = IsUnitOf fs unit
 IsOfThese fs (fault.Changed unit) = IsUnitOf fs unit
 IsOfThese fs (fault.Failed f) = IsUnitOf fs f.unit
+IsOfThese fs fault.MissingUnit = ⊥
 IsOfThese fs fault.Port = ⊥
 IsOfThese fs fault.OutOfMemory = Unit {0}
 
--- a refusal of all of a session is that of one of its files, or of its port
+-- a refusal of all of a session is that of one of its units, of one of its files, or of a port
 abbrev pub IsOfSession : List FilePart → RestoreFault → Type 0
+IsOfSession fs fault.MissingUnit = Unit {0}
 IsOfSession fs fault.Port = Unit {0}
 IsOfSession fs f = IsOfThese fs f
 
--- The same of all of a session, whose port is listened on behind all files: where that came to nothing, no file was refused.
+-- The same of all of a session. Its units are looked for before all files: where one is missing, no file was asked for. Its
+-- ports are listened on behind all files: where that came to nothing, no file was refused.
 abbrev pub SaysFirst : Result (Unit {0}) RestoreFault → Option (UnitName × FileRefusal) → Type 0
+SaysFirst (Err fault.MissingUnit) said = Unit {0}
 SaysFirst (Err fault.Port) said = said ≡ None
 SaysFirst (Ok u) said = said ≡ None
 SaysFirst (Err fault.OutOfMemory) said = Unit {0}

@@ -44,12 +44,14 @@ RestoreCause tells (Err (fault.NoFile unit)) old new =
     ((IsTrue tells → ⊥) → Rose old.open_faults new.open_faults) × OpeningsStand tells old new
 RestoreCause tells (Err (fault.TooLong unit)) old new = WasOpened old new × OpeningsStand tells old new
 RestoreCause tells (Err (fault.Changed unit)) old new = WasOpened old new × OpeningsStand tells old new
+RestoreCause tells (Err fault.MissingUnit) old new = ⊥
 RestoreCause tells (Err fault.Port) old new = ⊥
 RestoreCause tells (Err fault.OutOfMemory) old new = Unit {0}
 
--- The same of all of a session, whose port is listened on behind all files: where that came to nothing, no opening
--- failed.
+-- The same of all of a session. Its units are looked for before all files: where one is missing, all files are as they
+-- were. Its ports are listened on behind all files: where that came to nothing, no opening failed.
 abbrev pub SessionCause : Bool → Result (Unit {0}) RestoreFault → FileState → FileState → Type 0
+SessionCause tells (Err fault.MissingUnit) old new = new ≡ old
 SessionCause tells (Err fault.Port) old new = OpeningsStand tells old new
 SessionCause tells (Ok u) old new = RestoreCause tells (Ok u) old new
 SessionCause tells (Err f) old new = RestoreCause tells (Err f) old new

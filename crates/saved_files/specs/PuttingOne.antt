@@ -80,6 +80,7 @@ IsOf unit (fault.NoFile u) = u ≡ unit
 IsOf unit (fault.TooLong u) = u ≡ unit
 IsOf unit (fault.Changed u) = u ≡ unit
 IsOf unit (fault.Failed f) = f.unit ≡ unit
+IsOf unit fault.MissingUnit = ⊥
 IsOf unit fault.Port = ⊥
 IsOf unit fault.OutOfMemory = Unit {0}
 
@@ -89,6 +90,7 @@ refusal_in (fault.NoFile unit) = Some IsMissing
 refusal_in (fault.TooLong unit) = Some IsTooLong
 refusal_in (fault.Changed unit) = Some HasChanged
 refusal_in (fault.Failed f) = Some (CallFails (failure_in f))
+refusal_in fault.MissingUnit = None
 refusal_in fault.Port = None
 refusal_in fault.OutOfMemory = None
 
@@ -99,6 +101,7 @@ failure_of result = None
 abbrev pub SaysOne : Result (Unit {0}) RestoreFault → Option FileRefusal → Type 0
 SaysOne (Ok u) said = said ≡ None
 SaysOne (Err fault.OutOfMemory) said = Unit {0}
+SaysOne (Err fault.MissingUnit) said = ⊥
 SaysOne (Err fault.Port) said = ⊥
 SaysOne (Err f) said = said ≡ refusal_in f
 

@@ -4,6 +4,8 @@ use unit_trait::UnitName;
 /// Why a saved session was not put back. The units have the files that they had, which are none.
 #[derive(Clone, Copy, Debug, PartialEq)]
 pub enum RestoreFault {
+    /// The session has a unit that the machine lacks. Nothing was asked of any file.
+    MissingUnit,
     /// The file of a unit is not there.
     NoFile(UnitName),
     /// The file of a unit is longer than the unit takes.
@@ -12,7 +14,7 @@ pub enum RestoreFault {
     Changed(UnitName),
     /// A call on the file of a unit failed.
     Failed(UnitFault),
-    /// The port of the second teletype is not to be had.
+    /// A port of the session's lines is not to be had.
     Port,
     OutOfMemory,
 }

@@ -8,6 +8,7 @@ use Rattle.saved_session.specs.declared.saved.SavedEvent.{SavedEvent}
 use Rattle.saved_session.specs.declared.saved.SavedFile.{SavedFile}
 use Rattle.saved_session.specs.declared.saved.SavedBreak.{SavedBreak}
 use Rattle.saved_session.specs.declared.saved.SavedExpect.{SavedExpect}
+use Rattle.saved_session.specs.declared.saved.SavedPorts.{SavedPorts}
 use Rattle.saved_session.specs.declared.saved.SavedSend.{SavedSend}
 
 -- a unit, by its position in bus order, and what its registers hold
@@ -50,11 +51,11 @@ pub record WatchPart : Type 0 where
   pub tail : List ℕ
   pub sends : List SavedSend
 
--- all that is saved: beside these the attached files, and the port of the second teletype, where 0 is none
+-- all that is saved: beside these the attached files, and the ports of the terminal lines
 pub record State : Type 0 where
   pub machine : MachinePart
   pub files : List FilePart
-  pub port : ℕ
+  pub ports : SavedPorts
   pub watch : WatchPart
 
 -- ---- what a value of the program says
@@ -82,7 +83,7 @@ abbrev pub state_in : Saved → State
 state_in s = record {
   machine = record { cpu = s.cpu; words = s.words.items; units = map unit_in s.units.items; agenda = s.agenda.items };
   files = map file_in s.attachments.items;
-  port = s.port;
+  ports = s.ports;
   watch = record {
     breaks = map break_in s.breaks.items;
     expects = map expect_in s.expects.items;

@@ -1,6 +1,6 @@
 -- What each field of a saved session can hold. A unit is named by its position in bus order, from 0; of the eleven kinds
--- the first ten are those of a standard machine.
-use Rattle.std.specs.Prelude.{ℕ, ◌%◌, ◌^◌, ◌==◌, ◌&&◌, ◌||◌, Bool, true, false, not, nat_le, nat_lt, List, length, Option, Some, None, option_map, slice_get}
+-- a machine has the first ten, or these and the multiplexer.
+use Rattle.std.specs.Prelude.{ℕ, ◌+◌, ◌%◌, ◌^◌, ◌==◌, ◌&&◌, ◌||◌, Bool, true, false, not, nat_le, nat_lt, List, length, Option, Some, None, option_map, slice_get}
 use Rattle.std.specs.List.{list_any}
 use Rattle.unit_trait.specs.declared.kind.Kind.{Kind}
 use Rattle.unit_trait.specs.declared.kind.Kind.TheVariants.{Dsk, Mta, Lpt, Ptp, Qty}
@@ -37,12 +37,23 @@ kind_or_last (Some kind) = kind
 unfoldable pub kind_at : ℕ → Kind
 kind_at position = kind_or_last (slice_get all_kinds position)
 
--- how many kinds a standard machine has
+-- how many kinds a machine has without the multiplexer, and with it
 abbrev pub standard_kinds : ℕ
 standard_kinds = 10
 
-abbrev pub is_position : ℕ → Bool
-is_position position = nat_lt position standard_kinds
+abbrev pub most_kinds : ℕ
+most_kinds = 11
+
+abbrev pub is_unit_count : ℕ → Bool
+is_unit_count count = count == standard_kinds || count == most_kinds
+
+-- whether the multiplexer is among so many units
+abbrev pub has_multiplexer : ℕ → Bool
+has_multiplexer count = count == most_kinds
+
+-- whether one of so many units is at a position
+abbrev pub is_position : ℕ → ℕ → Bool
+is_position count position = nat_lt position count
 
 -- how many registers the units of a kind have
 unfoldable pub register_count : Kind → ℕ
@@ -117,6 +128,21 @@ longest_file_of kind = 16777216
 
 abbrev pub is_file_length : Kind → ℕ → Bool
 is_file_length kind n = nat_le n (longest_file_of kind)
+
+-- ---- ports, where 0 is none
+
+-- whether a port is one of those of the multiplexer's lines, by the first of them
+abbrev pub is_among : ℕ → ℕ → Bool
+is_among first port = nat_le first port && nat_lt port (first + 64)
+
+-- Whether the multiplexer's lines can have ports from that one on, beside that of the second teletype. A machine without the
+-- multiplexer has none.
+abbrev pub is_multiplexer_port : Bool → ℕ → ℕ → Bool
+is_multiplexer_port listed tti1 first = first == 0 || (listed && (nat_le first 65472 && not (is_among first tti1)))
+
+-- whether the console's line can have a port, beside those
+abbrev pub is_console_port : ℕ → ℕ → ℕ → Bool
+is_console_port tti1 first port = port == 0 || (not (port == tti1) && (first == 0 || not (is_among first port)))
 
 -- ---- what a run watches
 

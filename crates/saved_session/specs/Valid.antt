@@ -1,13 +1,14 @@
 -- Which saved sessions are valid, and which of them have a text at all.
-use Rattle.std.specs.Prelude.{◌≡◌, ℕ, ◌*◌, ◌^◌, ◌<◌, ◌&&◌, IsTrue, nat_le, List, [], ◌∷◌, length}
+use Rattle.std.specs.Prelude.{◌≡◌, ℕ, ◌*◌, ◌^◌, ◌<◌, ◌&&◌, Bool, IsTrue, nat_le, List, [], ◌∷◌, length}
 use Rattle.std.specs.List.{AllByRecursion}
 use Rattle.std.specs.Str.{is_utf8}
 use Rattle.unit_trait.specs.declared.kind.Kind.{Kind}
 use Rattle.saved_session.specs.declared.saved.SavedCpu.{SavedCpu}
 use Rattle.saved_session.specs.declared.saved.SavedEvent.{SavedEvent}
+use Rattle.saved_session.specs.declared.saved.SavedPorts.{SavedPorts}
 use Rattle.saved_session.specs.declared.saved.SavedSend.{SavedSend}
 use Rattle.saved_session.specs.Parts.{UnitPart, FilePart, BreakPart, ExpectPart, MachinePart, WatchPart, State}
-use Rattle.saved_session.specs.Ranges.{is_flag, is_size, is_address, is_time, is_key_count, kind_at, standard_kinds, is_position, register_count, holds_value, most_events, can_wait, comes_last, FilePlace, takes_file_at, is_next_unit, is_read_only_of, is_name_length, is_file_length, most_breaks, longest_actions, most_expects, longest_text, is_text_length, is_expect_count, most_sends, last_send, has_no_line_feed}
+use Rattle.saved_session.specs.Ranges.{is_flag, is_size, is_address, is_time, is_key_count, kind_at, is_unit_count, has_multiplexer, is_position, register_count, holds_value, most_events, can_wait, comes_last, FilePlace, takes_file_at, is_next_unit, is_read_only_of, is_name_length, is_file_length, is_multiplexer_port, is_console_port, most_breaks, longest_actions, most_expects, longest_text, is_text_length, is_expect_count, most_sends, last_send, has_no_line_feed}
 use Rattle.saved_session.specs.Order.{next_number, with_event, place_of, behind_file, behind_break, behind_send}
 
 -- each is a byte, a word of 16 bits, a number of 32 bits
@@ -35,6 +36,7 @@ pub record IsCpu (c : SavedCpu) : Type 0 where
   pub mask : c.mask < 2 ^ 16
   pub sr : c.sr < 2 ^ 16
   pub stop_dev : IsTrue (is_flag c.stop_dev)
+  pub autobit : IsTrue (is_flag c.autobit)
   pub time : IsTrue (is_time c.time)
   pub keys_taken : IsTrue (is_key_count c.keys_taken)
 
@@ -49,9 +51,9 @@ pub record IsUnit (expected : ℕ) (u : UnitPart) : Type 0 where
   pub all : length u.registers ≡ register_count (kind_at u.position)
   pub registers : Follow (CanHold (kind_at u.position)) next_number 0 u.registers
 
--- an event behind these: of a unit that the machine has and that none of them is of, and not before any of them
-pub record IsEvent (events : List SavedEvent) (e : SavedEvent) : Type 0 where
-  pub position : IsTrue (is_position e.position)
+-- an event behind these: of one of so many units that none of them is of, and not before any of them
+pub record IsEvent (count : ℕ) (events : List SavedEvent) (e : SavedEvent) : Type 0 where
+  pub position : IsTrue (is_position count e.position)
   pub unit : IsTrue (can_wait events e.position e.unit)
   pub remaining : e.remaining < 2 ^ 32
   pub last : IsTrue (comes_last events e.remaining)
@@ -60,10 +62,10 @@ pub record IsMachine (m : MachinePart) : Type 0 where
   pub cpu : IsCpu m.cpu
   pub size : length m.words ≡ 1024 * m.cpu.size_k
   pub words : AreWords m.words
-  pub all : length m.units ≡ standard_kinds
+  pub all : IsTrue (is_unit_count (length m.units))
   pub units : Follow IsUnit next_number 0 m.units
   pub few : IsTrue (nat_le (length m.agenda) most_events)
-  pub agenda : Follow IsEvent with_event [] m.agenda
+  pub agenda : Follow (IsEvent (length m.units)) with_event [] m.agenda
 
 -- ---- the attached files
 
@@ -120,12 +122,21 @@ pub record IsWatch (w : WatchPart) : Type 0 where
   pub few_sends : IsTrue (nat_le (length w.sends) most_sends)
   pub sends : Follow IsSend behind_send 0 w.sends
 
+-- ---- the ports
+
+-- no two lines have one port; the multiplexer's lines have none where it is not there
+pub record ArePorts (listed : Bool) (p : SavedPorts) : Type 0 where
+  pub tti1 : p.tti1 < 2 ^ 16
+  pub qty : IsTrue (is_multiplexer_port listed p.tti1 p.qty)
+  pub console : p.console < 2 ^ 16
+  pub apart : IsTrue (is_console_port p.tti1 p.qty p.console)
+
 -- ---- all of it
 
 pub record Valid (s : State) : Type 0 where
   pub machine : IsMachine s.machine
   pub files : AreFiles s.files
-  pub port : s.port < 2 ^ 16
+  pub ports : ArePorts (has_multiplexer (length s.machine.units)) s.ports
   pub watch : IsWatch s.watch
 
 -- ---- what has a text

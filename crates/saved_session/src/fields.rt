@@ -4,7 +4,8 @@ ghost use Rattle.saved_session.specs.Fields.{machine_in, watch_in};
 ghost use Rattle.saved_session.specs.Parts.{file_in, state_in};
 
 use crate::saved::{
-    Saved, SavedBreak, SavedCpu, SavedEvent, SavedExpect, SavedFile, SavedSend, SavedUnit,
+    Saved, SavedBreak, SavedCpu, SavedEvent, SavedExpect, SavedFile, SavedPorts, SavedSend,
+    SavedUnit,
 };
 
 /// The machine.
@@ -29,10 +30,10 @@ pub struct WatchFields {
 pub fn joined(
     machine: MachineFields,
     attachments: Vec<SavedFile>,
-    port: u16,
+    ports: SavedPorts,
     watch: WatchFields,
 ) -> Saved
-    ensures { state_in result ≡ record { machine = machine_in machine; files = map file_in attachments.items; port = port; watch = watch_in watch } }
+    ensures { state_in result ≡ record { machine = machine_in machine; files = map file_in attachments.items; ports = ports; watch = watch_in watch } }
 {
     Saved {
         cpu: machine.cpu,
@@ -40,7 +41,7 @@ pub fn joined(
         units: machine.units,
         agenda: machine.agenda,
         attachments,
-        port,
+        ports,
         breaks: watch.breaks,
         expects: watch.expects,
         tail: watch.tail,

@@ -11,6 +11,7 @@ pub use fields::{MachineFields, WatchFields, joined};
 pub use kinds::{holds_value, kind_at, longest_file_of, only_writes, register_count};
 pub use putting_watch::watch_from;
 pub use saved::{
-    Saved, SavedBreak, SavedCpu, SavedEvent, SavedExpect, SavedFile, SavedSend, SavedUnit,
+    Saved, SavedBreak, SavedCpu, SavedEvent, SavedExpect, SavedFile, SavedPorts, SavedSend,
+    SavedUnit,
 };
 pub use taking_watch::taken_watch;

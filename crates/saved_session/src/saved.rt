@@ -16,6 +16,8 @@ pub struct SavedCpu {
     pub sr: u16,
     /// Whether a word to a device that is not there stops the machine: 0 or 1.
     pub stop_dev: u8,
+    /// Whether bit 0 of an auto-index word is tested before the word is changed: 0 or 1.
+    pub autobit: u8,
     /// How many instructions were executed.
     pub time: u64,
     /// How many timed keys were taken.
@@ -73,6 +75,15 @@ pub struct SavedSend {
     pub byte: u8,
 }
 
+/// The ports of the terminal lines, where 0 is none: that of the second teletype, the first of those of the
+/// multiplexer's 64 lines, which rise by one, and that of the console.
+#[derive(Clone, Copy, Debug, PartialEq)]
+pub struct SavedPorts {
+    pub tti1: u16,
+    pub qty: u16,
+    pub console: u16,
+}
+
 /// A session as a state file has it.
 #[derive(Drop)]
 pub struct Saved {
@@ -85,8 +96,7 @@ pub struct Saved {
     pub agenda: Vec<SavedEvent>,
     /// The attached files, in bus order, drives by their numbers.
     pub attachments: Vec<SavedFile>,
-    /// The port of the second teletype; 0 is none.
-    pub port: u16,
+    pub ports: SavedPorts,
     /// The breaks, by rising addresses.
     pub breaks: Vec<SavedBreak>,
     /// The texts that are waited for, in the order in which they were added.

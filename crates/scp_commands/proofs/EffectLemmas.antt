@@ -52,11 +52,11 @@ use Rattle.command_session.specs.declared.next.Next.{Next}
 use Rattle.unit_trait.specs.declared.kind.Kind.{Kind}
 use Rattle.host_lines.specs.Traffic.{Answer as LineAnswer, Peer, Replied, Quiet, Connected, Gave, HungUp, Failed, Took, listening}
 use Rattle.telnet_lines.specs.Line.{LineOf}
-use Rattle.command_session.specs.LineEffects.{is_terminal, terminal_place, terminal_line, is_port, listen_answer, listen_lines, listen_with, attach_line, attach_port_reply}
+use Rattle.command_session.specs.LineEffects.{is_terminal, terminal_place, terminal_line, is_port, listen_answer, listen_lines, listen_with, listen_free, attach_line, attach_port_reply}
 use Rattle.command_session.specs.LineEffects.{with_port, detach_port_reply, disconnect_reply, show_line}
 use Rattle.plain_commands.specs.ShowEffects.{show_reply}
 use Rattle.command_session.specs.ExitEffects.{exit_reply}
-use Rattle.plain_commands.specs.SetEffects.{set_size_reply}
+use Rattle.plain_commands.specs.SetEffects.{set_size_reply, set_autobit_reply}
 use Rattle.plain_commands.specs.ScriptEffects.{test_answer, echo_reply, assert_reply, goto_reply}
 use Rattle.host_commands.specs.DoEffects.{do_answer, do_reply}
 use Rattle.command_session.specs.WholeCalls.{whole_calls, write_calls, wrote_answer}
@@ -304,11 +304,15 @@ fair-listen_with kind place port given said live = by said.answer
     by HungUp = record { reads = refl; exit = tt; untouched = λ other h. absurd (cc); all = λ other h none. absurd (cc) }
     by (Took count) = record { reads = refl; exit = tt; untouched = λ other h. absurd (cc); all = λ other h none. absurd (cc) }
 
+fair-listen_free : (kind : Kind) (place port : ℕ) (live : Live) → Fair false (LeavesTraces (request.AttachPort kind port)) live (listen_free place port live)
+fair-listen_free kind place port live =
+    fair-if _ live _ _ (fair-refused _ live) (fair-listen_with kind place port port (listening live.ahead) live)
+
 fair-attach_line : (kind : Kind) (line : Option (LineOf Peer)) (place port : ℕ) (live : Live) → Fair false (LeavesTraces (request.AttachPort kind port)) live (attach_line line place port live)
 fair-attach_line kind None place port live = fair-refused _ live
 fair-attach_line kind (Some line) place port live =
     fair-if (is_some line.port) live _ _ (fair-refused _ live)
-    (fair-if (is_port port) live _ _ (fair-listen_with kind place port port (listening live.ahead) live) (fair-refused _ live))
+    (fair-if (is_port port) live _ _ (fair-listen_free kind place port live) (fair-refused _ live))
 
 fair-attach_port : (kind : Kind) (live : Live) (port : ℕ) → Fair false (LeavesTraces (request.AttachPort kind port)) live (attach_port_reply live port)
 unfolding attach_port_reply
@@ -353,6 +357,10 @@ fair-exit notes live status = exit-if (nat_le (unwrap_or status 0) 99) refl
 fair-set_size : {W : CommandFault → Type 0} (live : Live) (k : ℕ) → Fair false W live (set_size_reply live k)
 unfolding set_size_reply
 fair-set_size live k = fair-if (fits_size k) live _ _ (fair-goes live _) (fair-refused _ live)
+
+fair-set_autobit : {W : CommandFault → Type 0} (live : Live) (before : Bool) → Fair false W live (set_autobit_reply live before)
+unfolding set_autobit_reply
+fair-set_autobit live before = fair-goes live _
 
 -- ---- BREAK, EXPECT and SEND
 
@@ -605,6 +613,7 @@ fair-effect limit notes live (request.Attach option unit name) = fair-attach not
 fair-effect limit notes live (request.AttachPort kind port) = fair-attach_port kind live port
 fair-effect limit notes live (request.Detach unit) = fair-detach_where notes live unit
 fair-effect limit notes live (request.SetSize k) = fair-set_size live k
+fair-effect limit notes live (request.SetAutobit before) = fair-set_autobit live before
 fair-effect limit notes live (request.Disconnect kind) = fair-disconnect live
 fair-effect limit notes live (request.Show subject) = fair-show live subject
 fair-effect limit notes live (request.Do echo strict name arguments) = fair-do notes live echo strict name

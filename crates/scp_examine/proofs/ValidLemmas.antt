@@ -4,7 +4,6 @@ use Rattle.std.proofs.lemmas.Bool.{leb-true}
 use Rattle.std.proofs.lemmas.List.{length-set}
 use Rattle.std.proofs.lemmas.List.Elements.{All-from_recursion, recursion_from_All, All-set}
 use Rattle.nova_memory.specs.Memory.{IsSize}
-use Rattle.nova_memory.proofs.Chains.{put-rule}
 use Rattle.nova_memory.proofs.Keeps.{put-memory}
 use Rattle.unit_trait.specs.declared.kind.Kind.{Kind}
 use Rattle.unit_trait.specs.declared.processor.CpuReg.{CpuReg}
@@ -32,7 +31,6 @@ pub cpu-valid : (m : MachineState) (cpu : _) → ValidMachine m → ValidCpu cpu
 cpu-valid m cpu is new = record {
   memory = is.memory;
   size = is.size;
-  rule = is.rule;
   cpu = new;
   mask = is.mask;
   switches = is.switches;
@@ -62,7 +60,6 @@ rest-valid : (m : MachineState) (mask sr : ℕ) (on hold stop_dev : Bool) → Va
 rest-valid m mask sr on hold stop_dev is low fits = record {
   memory = is.memory;
   size = is.size;
-  rule = is.rule;
   cpu = is.cpu;
   mask = low;
   switches = fits;
@@ -97,7 +94,6 @@ pub unit-valid : (m : MachineState) (kind : Kind) (i v : ℕ) → ValidMachine m
 unit-valid m kind i v is takes = record {
   memory = is.memory;
   size = is.size;
-  rule = is.rule;
   cpu = is.cpu;
   mask = is.mask;
   switches = is.switches;
@@ -116,7 +112,6 @@ value-valid : (m : MachineState) (place : Place) (v : ℕ) → ValidMachine m �
 value-valid m (Cell a) v is takes = record {
   memory = put-memory m.processor.memory a v is.memory (word_value v takes.fits);
   size = subst IsSize (sym (size-put m.processor.memory a v)) is.size;
-  rule = put-rule m.processor.memory a v ∙ is.rule;
   cpu = is.cpu;
   mask = is.mask;
   switches = is.switches;

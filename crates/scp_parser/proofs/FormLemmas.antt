@@ -1,13 +1,14 @@
 -- The forms of words are decided by their functions.
 use Rattle.std.proofs.Common.{◌≡◌, ℕ, true, Option, List}
 use Rattle.scp_parser.specs.Names.{IsCommandName, command_named}
-use Rattle.scp_parser.specs.Forms.{IsSubject, IsSymbolic, IsOption, IsTarget, IsDetached, IsFlag, IsNoBreak, AreAddresses, IsSet, IsSize, IsScriptName, IsAnyWord}
-use Rattle.scp_parser.specs.Operands.{subject_of, symbolic_of, option_of, target_of, detached_of, flag_of, no_break_of, addresses_of, set_of, size_of, as_file_name, any_word}
+use Rattle.scp_parser.specs.Forms.{IsSubject, IsSymbolic, IsOption, IsTarget, IsDetached, IsFlag, IsNoBreak, AreAddresses, IsSet, IsSetting, IsScriptName, IsAnyWord}
+use Rattle.scp_parser.specs.Operands.{subject_of, symbolic_of, option_of, target_of, detached_of, flag_of, no_break_of, addresses_of, set_of, setting_of, as_file_name, any_word}
 use Rattle.operand_forms.proofs.Decides.{Decides}
 use Rattle.scp_parser.proofs.SubjectLemmas.{subject_found, subject_reads, symbolic_found, symbolic_reads}
 use Rattle.scp_parser.proofs.TargetLemmas.{option_found, option_reads, target_found, target_reads, detached_found, detached_reads}
 use Rattle.scp_parser.proofs.FlagLemmas.{flag_found, flag_reads, no_break_found, no_break_reads, set_found, set_reads}
-use Rattle.scp_parser.proofs.SizeLemmas.{addresses_found, addresses_read, size_found, size_reads}
+use Rattle.scp_parser.proofs.SizeLemmas.{addresses_found, addresses_read}
+use Rattle.scp_parser.proofs.AutobitLemmas.{setting_found, setting_reads}
 use Rattle.scp_parser.proofs.LabelLemmas.{script_found, script_reads, word_found, word_reads}
 use Rattle.scp_parser.proofs.CommandNameLemmas.{name_found, name_reads}
 
@@ -38,8 +39,8 @@ addresses_decide text x = (addresses_found text x, addresses_read text x)
 pub set_decides : Decides IsSet set_of
 set_decides text what = (set_found text what, set_reads text what)
 
-pub size_decides : Decides IsSize size_of
-size_decides text n = (size_found text n, size_reads text n)
+pub setting_decides : Decides IsSetting setting_of
+setting_decides text what = (setting_found text what, setting_reads text what)
 
 pub script_decides : Decides IsScriptName as_file_name
 script_decides text name = (script_found text name, script_reads text name)

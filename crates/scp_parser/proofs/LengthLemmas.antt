@@ -1,7 +1,6 @@
 -- What follows an operand is no longer than the text before it.
 use Rattle.std.proofs.Common.{ℕ, ◌≤◌, Option, Some, None, List, length, arith, length-drop}
 use Rattle.std.specs.List.{position_or_len}
-use Rattle.std.specs.Prelude.{not}
 use Rattle.line_text.specs.Words.{is_blank, past_blanks, word_at}
 use Rattle.scp_parser.specs.Reading.{next_word, maybe_found, maybe}
 use Rattle.line_text.proofs.BlankLemmas.{past_shorter}

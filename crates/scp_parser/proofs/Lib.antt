@@ -23,6 +23,7 @@ mod LastNameLemmas
 pub mod AttachLemmas
 pub mod TailLemmas
 mod MediaLemmas
+mod AutobitLemmas
 mod SettingLemmas
 mod ScriptLemmas
 mod OperatesLemmas

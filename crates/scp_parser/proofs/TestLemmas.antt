@@ -11,7 +11,6 @@ use Rattle.std.proofs.lemmas.List.Sums.{AllPass-from_list_all, list_all-from_All
 use Rattle.std.proofs.lemmas.Option.{slice_get_within, get_or_from_slice_get}
 use Rattle.nova_word.specs.Numbers.{IsDigit}
 use Rattle.unit_trait.specs.declared.kind.Kind.{Kind}
-use Rattle.unit_trait.specs.declared.kind.Kind.TheVariants.{Dsk, Mta, Lpt, Ptr, Ptp, Clk, Tti, Tto, Tti1, Tto1, Qty}
 use Rattle.unit_trait.specs.Multiplexer.{line_numbers}
 use Rattle.unit_trait.proofs.EveryKind.{every-kind}
 use Rattle.operand_forms.specs.declared.listing.Name.{Name}

@@ -1,14 +1,13 @@
 -- The first word of a text and what follows it, as the function of words gives them.
 use Rattle.std.specs.Prelude.{not}
-use Rattle.std.proofs.Common.{◌≡◌, ℕ, ◌+◌, ◌<◌, suc, Bool, true, false, cond, eqb, List, [], ◌∷◌, ◌++◌, length, take, drop, get_or, All, refl, ap, sym, subst, ◌∙◌, ◌⊎◌, inl, inr, arith, length-append}
+use Rattle.std.proofs.Common.{◌≡◌, ℕ, ◌+◌, ◌<◌, suc, Bool, true, false, cond, List, [], ◌∷◌, ◌++◌, length, take, drop, get_or, All, refl, ap, sym, subst, ◌∙◌, ◌⊎◌, inl, inr, arith, length-append}
 use Rattle.std.specs.List.{position_or_len}
-use Rattle.std.proofs.lemmas.Bool.{eqb-true, or_cases, not-true, not-false, not_from_false, not_from_true, false_from_ne_true, false≢true}
-use Rattle.std.proofs.lemmas.List.{take-append-drop, take_at, drop_at, append-nil, get_or-take, length-take-le}
+use Rattle.std.proofs.lemmas.Bool.{not-true, not_from_false, not_from_true, false_from_ne_true, false≢true}
+use Rattle.std.proofs.lemmas.List.{drop_at, append-nil}
 use Rattle.std.proofs.lemmas.List.Elements.{All-head, All-tail, All-same}
-use Rattle.std.proofs.lemmas.List.Sums.{prefix_len-le-length, fails_before_first}
 use Rattle.line_text.specs.Words.{IsBlank, IsBlanks, StartsIn, IsWord, Begins, is_blank, past_blanks, word_at}
 use Rattle.scp_parser.specs.Reading.{next_word}
-use Rattle.line_text.proofs.BlankLemmas.{Blanked, is_other, blank_is, blank_passes, none_before_place, blanked, split_at_place, word_parts}
+use Rattle.line_text.proofs.BlankLemmas.{is_other, blank_is, blank_passes, none_before_place, blanked, split_at_place, word_parts}
 
 -- blanks, and the bytes that are none
 

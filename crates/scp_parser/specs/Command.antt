@@ -40,6 +40,7 @@ pub data Request : Type 0 where
   Dump : ℕ → ℕ → List ℕ → Request
   Restore : Bool → List ℕ → Request
   SetSize : ℕ → Request
+  SetAutobit : Bool → Request
   Disconnect : Kind → Request
   Show : Shown → Request
   Do : Bool → Bool → List ℕ → List ℕ → Request
@@ -80,6 +81,7 @@ request_of line (verb.Save name) = Save (piece_of line name)
 request_of line (verb.Dump from to name) = Dump from to (piece_of line name)
 request_of line (verb.Restore force name) = Restore force (piece_of line name)
 request_of line (verb.SetSize size) = SetSize size
+request_of line (verb.SetAutobit before) = SetAutobit before
 request_of line (verb.Disconnect kind) = Disconnect kind
 request_of line (verb.Show subject) = Show subject
 request_of line (verb.Do echo strict name arguments) = Do echo strict (piece_of line name) (piece_of line arguments)

@@ -17,7 +17,7 @@ use Rattle.scp_parser.specs.Names.{IsCommandName}
 use Rattle.scp_parser.specs.Command.{IsFileName}
 use Rattle.operand_forms.specs.Forms.{IsOctal, IsDecimal, IsList, IsDevice}
 use Rattle.scp_parser.specs.Forms.{IsSubject, IsOption, IsTarget, IsDetached, IsFlag, IsCount, IsPoint, IsNoBreak, IsKeyed, IsTextAt}
-use Rattle.scp_parser.specs.Forms.{AreAddresses, IsSet, IsSize, IsScriptName, IsAnyWord, IsTest}
+use Rattle.scp_parser.specs.Forms.{AreAddresses, IsSet, IsSetting, IsScriptName, IsAnyWord, IsTest}
 use Rattle.scp_parser.specs.Grammar.{longest_line, name_of, BeginsAt, TakesAt, Chooses, IsListing, Then, Takes, MayTake, IsInside, AsksNothing}
 
 abbrev pub begins_with_digit : List ℕ → Bool
@@ -86,7 +86,7 @@ pub data ActionFaults (text : List ℕ) : ParseFault → Type 0 where
 
 -- the faults behind what SET sets
 abbrev pub SetFaults : Name → List ℕ → ParseFault → Type 0
-SetFaults whose.Cpu text fault = FaultThen (WordFaults IsSize false text) (Takes IsSize text) (λ n. EndFaults n.1) fault
+SetFaults whose.Cpu text fault = FaultThen (WordFaults IsSetting false text) (Takes IsSetting text) (λ what. EndFaults what.1) fault
 SetFaults (whose.Device kind) text fault =
     FaultThen (WordFaults (IsFlag (codes "DISCONNECT")) false text) (Takes (IsFlag (codes "DISCONNECT")) text) (λ d. EndFaults d.1) fault
 

@@ -1,11 +1,13 @@
 -- The forms of the words of a line that only some commands have: subjects, options, the units of ATTACH and DETACH, and
 -- the operands of the commands for scripts, breaks and media.
-use Rattle.std.specs.Prelude.{◌≡◌, ◌⊎◌, ℕ, ◌<◌, Bool, true, List, [], ◌∷◌, ◌++◌, length, codes, Option, Some, None}
+use Rattle.std.specs.Prelude.{◌≡◌, ◌⊎◌, ℕ, ◌<◌, Bool, true, false, List, [], ◌∷◌, ◌++◌, length, codes, Option, Some, None}
 use Rattle.unit_trait.specs.declared.kind.Kind.TheVariants.{Tti1}
 use Rattle.unit_trait.specs.declared.kind.UnitName.{UnitName}
 use Rattle.unit_trait.specs.Kinds.{TakesFile}
 use Rattle.scp_parser.specs.declared.command.Shown.{Shown}
 use Rattle.scp_parser.specs.declared.command.Shown.TheVariants.{Time, Cpu, Queue, Break, Expect, Send, Version, Unit as AUnit}
+use Rattle.scp_parser.specs.declared.settings.Setting.{Setting}
+use Rattle.scp_parser.specs.declared.settings.Setting.TheVariants.{Size, Autobit}
 use Rattle.line_text.specs.Words.{IsBlank, StartsIn, IsSpelled}
 use Rattle.operand_forms.specs.declared.listing.Name.{Name}
 use Rattle.operand_forms.specs.declared.listing.Name.TheVariants as whose
@@ -97,6 +99,12 @@ pub data IsSet : List ℕ → Name → Type 0 where
 -- a size of memory in K words
 pub data IsSize : List ℕ → ℕ → Type 0 where
   kilo : (digits : List ℕ) (k n : ℕ) → IsDecimal digits n → (k ≡ 75) ⊎ (k ≡ 107) → IsSize (digits ++ k ∷ []) n
+
+-- what is set of the processor: the size of its memory, or when bit 0 of an auto-index word is tested
+pub data IsSetting : List ℕ → Setting → Type 0 where
+  memory_size : (text : List ℕ) (n : ℕ) → IsSize text n → IsSetting text (Size n)
+  before_change : (text : List ℕ) → IsSpelled text (codes "AUTOBIT=BEFORE") → IsSetting text (Autobit true)
+  after_change : (text : List ℕ) → IsSpelled text (codes "AUTOBIT=AFTER") → IsSetting text (Autobit false)
 
 -- the name of a script is one word
 abbrev pub IsScriptName : List ℕ → List ℕ → Type 0

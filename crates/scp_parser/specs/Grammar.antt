@@ -12,6 +12,8 @@ use Rattle.operand_forms.specs.declared.listing.Condition.{Condition}
 use Rattle.operand_forms.specs.declared.listing.Item.{Item}
 use Rattle.operand_forms.specs.declared.listing.Listing.{Listing}
 use Rattle.operand_forms.specs.declared.listing.Test.{Test}
+use Rattle.scp_parser.specs.declared.settings.Setting.{Setting}
+use Rattle.scp_parser.specs.declared.settings.Setting.TheVariants.{Size, Autobit}
 use Rattle.scp_parser.specs.declared.names.CommandName.{CommandName}
 use Rattle.scp_parser.specs.declared.names.CommandName.TheVariants.{Alone, Examine, Deposit, Run, Go, Step, Attach, Detach, Show, Exit}
 use Rattle.scp_parser.specs.declared.names.CommandName.TheVariants.{Break, NoBreak, Expect, Send, Load, Save, Dump, Restore, Set, Do, Goto, Assert, Echo}
@@ -20,7 +22,7 @@ use Rattle.scp_parser.specs.Command as request
 use Rattle.scp_parser.specs.Names.{IsCommandName, alone_request}
 use Rattle.operand_forms.specs.Forms.{IsOctal, IsDecimal, IsList, IsCondition, IsDevice}
 use Rattle.scp_parser.specs.Forms.{IsSubject, IsSymbolic, IsOption, IsTarget, IsDetached, IsFlag, IsCount, IsPoint, IsNoBreak, IsKeyed, IsTextAt}
-use Rattle.scp_parser.specs.Forms.{AreAddresses, IsSet, IsSize, IsScriptName, IsAnyWord, IsTest}
+use Rattle.scp_parser.specs.Forms.{AreAddresses, IsSet, IsSetting, IsScriptName, IsAnyWord, IsTest}
 
 -- how many bytes a command line has at most
 abbrev pub longest_line : ℕ
@@ -159,9 +161,14 @@ Attaches false option unit text asked = Then (Takes IsDecimal text) (λ n. Ends 
 abbrev pub HasTarget : Option ℕ → List ℕ → Request → Type 0
 HasTarget option text asked = Then (Takes (IsTarget option) text) (λ u. Attaches (takes_file u.0.kind) (option_letter option) u.0 u.1) asked
 
--- what follows what SET sets: a size of memory, or that the second terminal is disconnected
+-- what is set of the processor, as a request
+abbrev pub setting : Setting → Request
+setting (Size n) = request.SetSize n
+setting (Autobit before) = request.SetAutobit before
+
+-- what follows what SET sets: what is set of the processor, or that the second terminal is disconnected
 abbrev pub Sets : Name → List ℕ → Request → Type 0
-Sets whose.Cpu text asked = Then (Takes IsSize text) (λ n. Ends (request.SetSize n.0) n.1) asked
+Sets whose.Cpu text asked = Then (Takes IsSetting text) (λ what. Ends (setting what.0) what.1) asked
 Sets (whose.Device kind) text asked = Then (Takes (IsFlag (codes "DISCONNECT")) text) (λ d. Ends (request.Disconnect Tti1) d.1) asked
 
 -- the name of a script behind the options of DO, and its arguments

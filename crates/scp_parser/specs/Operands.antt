@@ -6,6 +6,8 @@ use Rattle.unit_trait.specs.declared.kind.UnitName.{UnitName}
 use Rattle.unit_trait.specs.Kinds.{takes_file}
 use Rattle.scp_parser.specs.declared.command.Shown.{Shown}
 use Rattle.scp_parser.specs.declared.command.Shown.TheVariants.{Time, Cpu, Queue, Break, Expect, Send, Version, Unit as AUnit}
+use Rattle.scp_parser.specs.declared.settings.Setting.{Setting}
+use Rattle.scp_parser.specs.declared.settings.Setting.TheVariants.{Size, Autobit}
 use Rattle.line_text.specs.Words.{is_spelled, is_blank}
 use Rattle.nova_word.specs.Quoted.{quoted_read}
 use Rattle.unit_trait.specs.declared.kind.Kind.TheVariants.{Tti1}
@@ -114,6 +116,12 @@ set_of text =
 
 unfoldable pub size_of : List ℕ → Option ℕ
 size_of text = if ends_with (λ b. b == 75 || b == 107) text then decimal (all_but_last text) else None
+
+unfoldable pub setting_of : List ℕ → Option Setting
+setting_of text =
+    if is_spelled text (codes "AUTOBIT=BEFORE") then Some (Autobit true)
+    else if is_spelled text (codes "AUTOBIT=AFTER") then Some (Autobit false)
+    else option_map (λ n. Size n) (size_of text)
 
 unfoldable pub any_word : List ℕ → Option (List ℕ)
 any_word [] = None

@@ -16,6 +16,8 @@ use Rattle.operand_forms.specs.declared.listing.Listing.{Listing}
 use Rattle.scp_parser.specs.declared.command.Piece.{Piece}
 use Rattle.scp_parser.specs.declared.command.Verb.{Verb}
 use Rattle.scp_parser.specs.declared.command.Verb.TheVariants as verb
+use Rattle.scp_parser.specs.declared.settings.Setting.{Setting}
+use Rattle.scp_parser.specs.declared.settings.Setting.TheVariants.{Size, Autobit}
 use Rattle.scp_parser.specs.declared.fault.ParseFault.{ParseFault}
 use Rattle.scp_parser.specs.declared.fault.ParseFault.TheVariants.{Unknown, Missing, BadSymbol, Extra, TooLong}
 use Rattle.scp_parser.specs.declared.names.CommandName.{CommandName}
@@ -25,7 +27,7 @@ use Rattle.scp_parser.specs.Command.{Request, request_of}
 use Rattle.scp_parser.specs.Names.{command_named, alone_verb}
 use Rattle.operand_forms.specs.Operands.{octal, decimal, items_of, condition_of, device_of}
 use Rattle.scp_parser.specs.Operands.{subject_of, symbolic_of, option_of, target_of, detached_of, as_file_name, flag_of, count_of, point_of, no_break_of, keyed_of, text_at}
-use Rattle.scp_parser.specs.Operands.{addresses_of, set_of, size_of, any_word, test_of}
+use Rattle.scp_parser.specs.Operands.{addresses_of, set_of, setting_of, any_word, test_of}
 use Rattle.scp_parser.specs.Grammar.{longest_line, name_of, option_letter, test_with}
 use Rattle.scp_parser.specs.Faults.{bad_word, placed}
 
@@ -223,8 +225,13 @@ restore_from bytes force = with_name bytes (λ name. verb.Restore (is_some force
 unfoldable pub restore : ℕ → List ℕ → Result Verb ParseFault
 restore bytes text = restore_from bytes (maybe (flag_of (codes "-F")) text)
 
+-- what is set of the processor, as a verb
+abbrev pub verb_of_setting : Setting → Verb
+verb_of_setting (Size n) = verb.SetSize n
+verb_of_setting (Autobit before) = verb.SetAutobit before
+
 abbrev pub set_what : Name × List ℕ → Result Verb ParseFault
-set_what (whose.Cpu, text) = needed false size_of text >>= (λ n. ended (verb.SetSize n.0) n.1)
+set_what (whose.Cpu, text) = needed false setting_of text >>= (λ what. ended (verb_of_setting what.0) what.1)
 set_what (whose.Device kind, text) = needed false (flag_of (codes "DISCONNECT")) text >>= (λ d. ended (verb.Disconnect Tti1) d.1)
 
 unfoldable pub set : List ℕ → Result Verb ParseFault

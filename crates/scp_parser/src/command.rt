@@ -89,6 +89,8 @@ pub enum Verb {
     },
     /// The n of `SET CPU nK`.
     SetSize(u64),
+    /// `SET CPU AUTOBIT=BEFORE`, which is true, or `SET CPU AUTOBIT=AFTER`.
+    SetAutobit(bool),
     Disconnect(Kind),
     Show(Shown),
     Do {

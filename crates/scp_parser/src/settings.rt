@@ -1,7 +1,7 @@
 // SET.
 ghost use Rattle.std.specs.Prelude.{◌≡◌, false, codes};
-ghost use Rattle.scp_parser.specs.Operands.{flag_of, set_of, size_of};
-ghost use Rattle.scp_parser.specs.Reading.{needed, set_what, set};
+ghost use Rattle.scp_parser.specs.Operands.{flag_of, set_of, setting_of, size_of};
+ghost use Rattle.scp_parser.specs.Reading.{needed, set_what, set, verb_of_setting};
 ghost use Rattle.scp_parser.specs.Views.{Gives};
 ghost use Rattle.operand_forms.specs.declared.listing.Name.TheVariants as whose;
 ghost use Rattle.unit_trait.specs.declared.kind.Kind.TheVariants.{Tti1};
@@ -12,6 +12,15 @@ use crate::operands::{bad_operand, ended, next_word};
 use line_text::is_spelled;
 use operand_forms::{Name, decimal};
 use unit_trait::Kind;
+
+/// What a word sets of the processor.
+#[derive(Clone, Copy, Debug, PartialEq, Eq)]
+pub enum Setting {
+    /// The size of its memory, in K words.
+    Size(u64),
+    /// Bit 0 of an auto-index word is tested before its change.
+    Autobit(bool),
+}
 
 // What a word names that SET can set.
 #[tactic(auto, unfolding(crate::specs::Operands::set_of))]
@@ -48,12 +57,29 @@ fn needed_set(text: &[u8]) -> Result<(Name, &[u8]), ParseFault>
     }
 }
 
-fn needed_size(text: &[u8]) -> Result<(u64, &[u8]), ParseFault>
-    ensures { Gives (λ x. (x.0, x.1.now)) result (needed false size_of text.now) }
+// What a word behind CPU sets.
+#[tactic(auto, unfolding(crate::specs::Operands::setting_of))]
+fn setting_of(word: &[u8]) -> Option<Setting>
+    ensures { result ≡ setting_of word.now }
+{
+    if is_spelled(word, b"AUTOBIT=BEFORE") {
+        return Some(Setting::Autobit(true));
+    }
+    if is_spelled(word, b"AUTOBIT=AFTER") {
+        return Some(Setting::Autobit(false));
+    }
+    match size_of(word) {
+        Some(n) => Some(Setting::Size(n)),
+        None => None,
+    }
+}
+
+fn needed_setting(text: &[u8]) -> Result<(Setting, &[u8]), ParseFault>
+    ensures { Gives (λ x. (x.0, x.1.now)) result (needed false setting_of text.now) }
 {
     let (word, rest) = next_word(text);
-    match size_of(word) {
-        Some(n) => Ok((n, rest)),
+    match setting_of(word) {
+        Some(setting) => Ok((setting, rest)),
         None => Err(bad_operand(false, word, rest)),
     }
 }
@@ -71,11 +97,20 @@ fn needed_disconnect(text: &[u8]) -> Result<(bool, &[u8]), ParseFault>
     }
 }
 
-fn set_size(text: &[u8]) -> Result<Verb, ParseFault>
+fn verb_of_setting(setting: Setting) -> Verb
+    ensures { result ≡ verb_of_setting setting }
+{
+    match setting {
+        Setting::Size(n) => Verb::SetSize(n),
+        Setting::Autobit(before) => Verb::SetAutobit(before),
+    }
+}
+
+fn set_processor(text: &[u8]) -> Result<Verb, ParseFault>
     ensures { result ≡ set_what (whose.Cpu, text.now) }
 {
-    let (n, rest) = needed_size(text)?;
-    ended(Verb::SetSize(n), rest)
+    let (setting, rest) = needed_setting(text)?;
+    ended(verb_of_setting(setting), rest)
 }
 
 fn disconnect(text: &[u8]) -> Result<Verb, ParseFault>
@@ -92,7 +127,7 @@ pub fn set(text: &[u8]) -> Result<Verb, ParseFault>
 {
     let (what, rest) = needed_set(text)?;
     match what {
-        Name::Cpu => set_size(rest),
+        Name::Cpu => set_processor(rest),
         Name::Device(_) => disconnect(rest),
     }
 }

@@ -38,7 +38,7 @@ use Rattle.command_session.specs.RunEffects.{last_address}
 use Rattle.command_session.specs.WatchEffects.{largest_count, text_of_quoted, lacks_room_for_break, can_be_expected}
 use Rattle.command_session.specs.WatchEffects.{break_reply, no_break_reply, expect_reply, no_expect_reply, send_reply, no_send_reply}
 use Rattle.plain_commands.specs.ShowEffects.{show_reply}
-use Rattle.plain_commands.specs.SetEffects.{set_size_reply}
+use Rattle.plain_commands.specs.SetEffects.{set_size_reply, set_autobit_reply}
 use Rattle.plain_commands.specs.ScriptEffects.{test_answer, echo_reply, assert_reply}
 use Rattle.scp_commands.specs.Effect.{effect}
 use Rattle.session_texts.specs.Scripts.{Script, most_scripts}
@@ -147,6 +147,10 @@ set_size-none : (live : Live) (k : ℕ) → IsPlain (set_size_reply live k).answ
 unfolding set_size_reply
 set_size-none live k = none-if (fits_size k) _ _ tt tt
 
+set_autobit-none : (live : Live) (before : Bool) → IsPlain (set_autobit_reply live before).answer
+unfolding set_autobit_reply
+set_autobit-none live before = tt
+
 echo-none : (live : Live) (text : List ℕ) → IsPlain (echo_reply live text).answer
 unfolding echo_reply
 echo-none live text = tt
@@ -186,6 +190,7 @@ untold-plain limit notes live (request.Attach option unit name) untold = absurd 
 untold-plain limit notes live (request.AttachPort kind port) untold = absurd (cc untold.0)
 untold-plain limit notes live (request.Detach unit) untold = absurd (cc untold.1)
 untold-plain limit notes live (request.SetSize k) untold = set_size-none live k
+untold-plain limit notes live (request.SetAutobit before) untold = set_autobit-none live before
 untold-plain limit notes live (request.Disconnect kind) untold = absurd (cc untold.0)
 untold-plain limit notes live (request.Show subject) untold = show-none live subject
 untold-plain limit notes live (request.Assert test) untold = assert-none live test

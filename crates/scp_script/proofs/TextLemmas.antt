@@ -216,10 +216,14 @@ denied texts what reply (fault.BadField place) result texts' at tells before mid
     denied-by texts what reply (fault.BadField place) result texts' at tells before mid after sink sink_now open_now heard does told
 denied texts what reply fault.Truncated result texts' at tells before mid after sink sink_now open_now heard does told =
     denied-by texts what reply fault.Truncated result texts' at tells before mid after sink sink_now open_now heard does told
+denied texts what reply fault.MissingUnit result texts' at tells before mid after sink sink_now open_now heard does told =
+    denied-by texts what reply fault.MissingUnit result texts' at tells before mid after sink sink_now open_now heard does told
 denied texts what reply (fault.Changed unit) result texts' at tells before mid after sink sink_now open_now heard does told =
     denied-by texts what reply (fault.Changed unit) result texts' at tells before mid after sink sink_now open_now heard does told
 denied texts what reply (fault.FileFailed who) result texts' at tells before mid after sink sink_now open_now heard does told =
     denied-by texts what reply (fault.FileFailed who) result texts' at tells before mid after sink sink_now open_now heard does told
+denied texts what reply fault.PortTaken result texts' at tells before mid after sink sink_now open_now heard does told =
+    denied-by texts what reply fault.PortTaken result texts' at tells before mid after sink sink_now open_now heard does told
 denied texts what reply fault.PortFailed result texts' at tells before mid after sink sink_now open_now heard does told =
     denied-by texts what reply fault.PortFailed result texts' at tells before mid after sink sink_now open_now heard does told
 denied texts what reply fault.Full result texts' at tells before mid after sink sink_now open_now heard does told =

@@ -62,6 +62,7 @@ room-effect scripts limit notes live (request.AttachPort kind port) fits = room-
 room-effect scripts limit notes live (request.Detach None) fits = room-none scripts _ (detach_all-none notes live)
 room-effect scripts limit notes live (request.Detach (Some unit)) fits = plain scripts _ (detach-plain notes live unit)
 room-effect scripts limit notes live (request.SetSize k) fits = plain scripts _ (untold-plain limit notes live (request.SetSize k) (refl, refl))
+room-effect scripts limit notes live (request.SetAutobit before) fits = plain scripts _ (untold-plain limit notes live (request.SetAutobit before) (refl, refl))
 room-effect scripts limit notes live (request.Disconnect kind) fits = room-none scripts _ (disconnect-none live)
 room-effect scripts limit notes live (request.Show subject) fits = plain scripts _ (untold-plain limit notes live (request.Show subject) (refl, refl))
 room-effect scripts limit notes live (request.Assert test) fits = plain scripts _ (untold-plain limit notes live (request.Assert test) (refl, refl))

@@ -7,13 +7,12 @@ use Rattle.file_commands.specs.Notes.{handed}
 use Rattle.nova_machine.specs.Comes.{Output}
 use Rattle.nova_machine.specs.LineChanges.{heard_with}
 use Rattle.nova_machine.specs.Valid.{DiskIsItsFile}
-use Rattle.state_transfer.specs.Session.{saved_port}
 use Rattle.scp_parser.specs.Command.{Save, Restore}
 use Rattle.command_session.specs.Live.{Live}
 use Rattle.command_session.specs.DiskFile.{disk_alone}
 use Rattle.state_commands.specs.StateEffects.{flushed_with}
 use Rattle.command_session.specs.Asked.{asked}
-use Rattle.command_laws.specs.Resumption.{left_by_save, ahead_behind, continued, HasNobody, HaveLengths, HoldsSaved, IsRestored}
+use Rattle.command_laws.specs.Resumption.{left_by_save, ahead_behind, ports_saved, continued, HasNobody, HaveLengths, HoldsSaved, HaveSameKinds, IsRestored}
 use Rattle.scp_script.specs.declared.progress.Finish.{Finish}
 use Rattle.scp_script.specs.declared.progress.Finish.TheVariants.{Exit, Console, Input, OutOfMemory}
 use Rattle.session_texts.specs.Actions.{texts_of}
@@ -64,7 +63,8 @@ pub record Restores (at behind : Session) (force : Bool) (name : List ℕ) (used
   pub alone : behind.texts ≡ texts_of [] []
   pub done : IsRestored behind.limit (handed behind.spent behind.notes) behind.live force name used
 
--- Its file has the text of what was saved of the session s, when the files were those; the files are those of s.
+-- Its file has the text of what was saved of the session s, when the files were those, in either version; the files are those
+-- of s, and the machine has units of the same kinds.
 pub record RestoresSaved (at behind : Session) (s : Live) (used : ℕ) : Type 0 where
   pub force : Bool
   pub name : List ℕ
@@ -72,6 +72,7 @@ pub record RestoresSaved (at behind : Session) (s : Live) (used : ℕ) : Type 0 
   pub restores : Restores at behind force name used
   pub holds : HoldsSaved behind.live.files then_files name s
   pub files : behind.live.files ≡ s.files
+  pub kinds : HaveSameKinds behind.live s
 
 -- The session s goes on: the rest of the input, the budget, the limit of a run, the prompt, the keys and what is still to
 -- come on lines are the present ones, and so are the calls on files that are still to fail.
@@ -114,12 +115,14 @@ pub record Saves (at behind : Session) (name : List ℕ) : Type 0 where
 abbrev pub behind_save : List ℕ → Session → Session
 behind_save name behind = rested (record behind { live = left_by_save name behind.live })
 
--- A session that was saved and one into which it is restored have the same files, keys, rest of the input, budget, limit of
--- a run and prompt, and what is still to come on lines is the same, less the listening on the port that was saved.
+-- A session that was saved and one into which it is restored have units of the same kinds, and the same files, keys, rest of
+-- the input, budget, limit of a run and prompt; and what is still to come on lines is the same, less the listenings on the ports
+-- that were saved.
 pub record HasSameOutside (saved present : Session) : Type 0 where
+  pub kinds : HaveSameKinds present.live saved.live
   pub files : present.live.files ≡ saved.live.files
   pub keys : present.live.keys ≡ saved.live.keys
-  pub ahead : ahead_behind (saved_port saved.live.lines) present.live.ahead ≡ saved.live.ahead
+  pub ahead : ahead_behind (ports_saved saved.live) present.live.ahead ≡ saved.live.ahead
   pub limit : present.limit ≡ saved.limit
   pub budget : present.budget ≡ saved.budget
   pub reads : present.reads ≡ saved.reads

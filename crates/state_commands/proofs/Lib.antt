@@ -2,6 +2,7 @@ pub mod StateWorkLemmas
 pub mod RestoredCan
 pub mod LateClaims
 pub mod RestoreLemmas
+pub mod PortRows
 pub mod RestoreLines
 pub mod RestoreNotes
 pub mod SaveLemmas

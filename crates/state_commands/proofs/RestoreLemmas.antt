@@ -29,16 +29,17 @@ use Rattle.nova_machine.proofs.Hearing.{heard-nothing}
 use Rattle.state_text.specs.declared.fault.StateFault.{StateFault}
 use Rattle.state_text.specs.declared.fault.StateFault.TheVariants as state
 use Rattle.saved_session.specs.Parts.{State}
+use Rattle.state_transfer.specs.PutBack.{misses_unit}
 use Rattle.state_text.specs.Reading.{reading}
 use Rattle.saved_files.specs.Putting.{FileRefusal, CallFails, first_refused}
 use Rattle.command_session.specs.declared.next.Next.TheVariants.{Ran}
-use Rattle.command_session.specs.declared.fault.CommandFault.TheVariants.{Console, OutOfMemory, AlreadyAttached, NoFile, FileTooLong, FileFailed}
+use Rattle.command_session.specs.declared.fault.CommandFault.TheVariants.{Console, OutOfMemory, AlreadyAttached, NoFile, FileTooLong, FileFailed, MissingUnit}
 use Rattle.state_commands.specs.StateFaults.{state_fault}
 use Rattle.command_session.specs.FaultText.{whole_fault}
 use Rattle.command_session.specs.Live.{Live, Standing, standing}
 use Rattle.command_session.specs.Reply.{Answer, Reply, refused}
 use Rattle.command_session.specs.WholeCalls.{is_of_whole, whole_calls, read_notes}
-use Rattle.state_commands.specs.StateEffects.{unit_claim, restored_by, restored_as, restored_from, restore_reply}
+use Rattle.state_commands.specs.StateEffects.{unit_claim, restored_by, unless_missing, restored_as, restored_from, restore_reply}
 use Rattle.command_session.specs.Occupied.{is_occupied}
 use Rattle.command_session.specs.Doing.{Does, Did, IsSaid, ComeBehind, IsRestoreAnswer}
 use Rattle.host_lines.specs.State.{LineState}
@@ -151,11 +152,26 @@ module _ (live : Live) (force : Bool) (name : List ℕ) (w : Whole) (free : is_o
         plain-fault state.Truncated = tt
         plain-fault state.OutOfMemory = tt
 
-    module _ (bytes : List ℕ) (s : State) (is : reading bytes ≡ Ok s) (read : whole_act (claimed w) name live.files ≡ (WholeIs bytes, length (claimed w))) where
+    -- it has a unit that is missing
+    pub missing-did : (bytes : List ℕ) (s : State) → reading bytes ≡ Ok s → whole_act (claimed w) name live.files ≡ (WholeIs bytes, length (claimed w))
+        → misses_unit s.machine live.machine.units ≡ true → (new : Live) → new ≡ live
+        → notes' ≡ notes ++ read_notes subject.State (record { command = number; time = time }) w
+        → Did (λ (own : List CommandNote). restore_reply own live force name) number (Err MissingUnit) new tells out out (notes_said notes) (notes_said notes')
+    missing-did bytes s is read misses new same noted =
+        unread-did (WholeIs bytes) (Err MissingUnit) new tt
+        (λ tail. ap (λ (r : Result State StateFault). restored_as force (length own) (drop (length own) tail) r live) is
+        ∙ ap (λ (b : Bool). unless_missing b (length own) live
+        (restored_by (first_refused (unit_claim time (drop (length own) tail)) force s.files no_attachments live.files) (length own) s live)) misses)
+        same read noted
+
+    module _ (bytes : List ℕ) (s : State) (is : reading bytes ≡ Ok s) (read : whole_act (claimed w) name live.files ≡ (WholeIs bytes, length (claimed w)))
+        (found : misses_unit s.machine live.machine.units ≡ false) where
       as-state : (tail : List CommandNote) → restored_from force (WholeIs bytes, length own) (own ++ tail) live
           ≡ restored_by (first_refused (unit_claim time tail) force s.files no_attachments live.files) (length own) s live
       as-state tail =
           ap (λ (r : Result State StateFault). restored_as force (length own) (drop (length own) (own ++ tail)) r live) is
+          ∙ ap (λ (b : Bool). unless_missing b (length own) live
+          (restored_by (first_refused (unit_claim time (drop (length own) (own ++ tail))) force s.files no_attachments live.files) (length own) s live)) found
           ∙ ap (λ (l : List CommandNote). restored_by (first_refused (unit_claim time l) force s.files no_attachments live.files) (length own) s live) (drop-all own tail)
 
       -- what comes behind is no call of these files

@@ -1,32 +1,41 @@
 -- What RESTORE leaves of the lines.
-use Rattle.std.proofs.Common.{◌≡◌, inl, inr, ℕ, zero, suc, ◌+◌, ◌++◌, append-nil, Bool, true, false, List, [], ◌∷◌, length, map, slice_get, Option, Some, None, is_some, option_map, Result, Ok, Err, refl, ap, sym, ◌∙◌, subst, arith}
-use Rattle.std.proofs.lemmas.Option.{same_Some, slice_get-map}
+use Rattle.std.proofs.Common.{◌≡◌, ◌≢◌, inl, inr, ℕ, zero, suc, ◌+◌, ◌<◌, ◌≤◌, ◌++◌, append-nil, Bool, true, false, true≢false, List, [], ◌∷◌, length, map, slice_get, Option, Some, None, IfSome, IsTrue, is_some, Result, Ok, Err, refl, ap, sym, ◌∙◌, subst, arith}
+use Rattle.std.specs.List.{AllByRecursion}
+use Rattle.std.proofs.lemmas.Option.{same_Some}
 use Rattle.host_lines.specs.declared.lines.ListenFault.{ListenFault}
 use Rattle.host_lines.specs.declared.lines.ListenFault.TheVariants as listen
-use Rattle.host_lines.specs.Traffic.{Answer as LineAnswer, Replied, listening}
-use Rattle.host_lines.specs.Told.{IsFirst, record_in, ahead_of}
-use Rattle.host_lines.specs.State.{LineState}
-use Rattle.telnet_lines.specs.Line.{LineOf, IsSettled, unconnected}
+use Rattle.host_lines.specs.Traffic.{Answer as LineAnswer, Quiet, Failed, Ahead, Replied, replied, listening}
+use Rattle.host_lines.specs.LineCalls.{Listens, listen_faults}
+use Rattle.host_lines.specs.Told.{Told, Gives, IsFirst, record_in, ahead_of}
+use Rattle.host_lines.specs.State.{LineState, IsListened}
+use Rattle.telnet_lines.specs.Line.{LineOf, unconnected}
+use Rattle.telnet_lines.specs.Many.{AreApart}
 use Rattle.telnet_lines.specs.Joined.{seen_line}
-use Rattle.terminal_ports.specs.Listening.{IsListening}
-use Rattle.terminal_ports.proofs.PortsApart.{changed-set, changed-none}
-use Rattle.command_session.specs.LineEffects.{terminal_place}
+use Rattle.terminal_ports.specs.Listening.{TellsEach, ListensEach}
+use Rattle.nova_machine.specs.LineChanges.{HasConnection}
+use Rattle.nova_machine.proofs.LineSteps.{first-same, first-through, hears-equal}
 use Rattle.unit_trait.specs.declared.kind.UnitName.{UnitName}
 use Rattle.saved_files.specs.declared.file_faults.RestoreFault.{RestoreFault}
 use Rattle.saved_files.specs.declared.file_faults.RestoreFault.TheVariants as restore
-use Rattle.state_transfer.specs.Listening.{wants_port, with_port, IsRefusedPort, LeavesLines, AreClosed}
+use Rattle.saved_session.specs.declared.saved.SavedPorts.{SavedPorts}
+use Rattle.saved_session.specs.Valid.{ArePorts}
+use Rattle.state_transfer.specs.Ports.{assigned, ports_wanted, with_ports}
+use Rattle.state_transfer.specs.Putting.{SaysMissing}
+use Rattle.state_transfer.specs.Listening.{LeavesLines, AreClosed}
 use Rattle.saved_session.specs.Parts.{State}
-use Rattle.state_transfer.specs.PutBack.{put_back}
+use Rattle.state_transfer.specs.PutBack.{misses_unit, put_back}
 use Rattle.saved_files.specs.Putting.{FileRefusal, SaysFirst}
 use Rattle.command_session.specs.declared.next.Next.TheVariants.{Go}
 use Rattle.command_session.specs.declared.fault.CommandFault.TheVariants.{PortFailed}
 use Rattle.state_commands.specs.StateFaults.{restore_fault}
-use Rattle.command_session.specs.LinesLeft.{LinesLeft, Unlistened}
+use Rattle.command_session.specs.LinesLeft.{HasPort, AreListened, LinesLeft, Unlistened}
 use Rattle.command_session.specs.Live.{Live}
-use Rattle.state_commands.specs.StateEffects.{refusal_fault, refusal_used, restored_by, ported_back, listened_back}
+use Rattle.state_commands.specs.StateEffects.{refusal_fault, refusal_used, unless_failed, listening_each, restored_by, listened_back}
 use Rattle.command_session.proofs.KeptLemmas.{lines-kept}
-use Rattle.command_session.proofs.PortLemmas.{left-listened, left-unlistened, session-listened, seen-still}
-use Rattle.state_commands.proofs.RestoreLemmas.{ends, back-did, failed-did, unread-want}
+use Rattle.fault_counts.specs.Faults.{raised}
+use Rattle.command_session.proofs.PortLemmas.{seen-still}
+use Rattle.state_commands.proofs.PortRows.{AreGiven, HasAt, NoneHas, all-given, given-length, every-given, given-there, apart-given, closed-none, given-listened, listened-before, given-up-before, ports-seen}
+use Rattle.state_commands.proofs.RestoreLemmas.{ends, missing-did, back-did, failed-did, unread-want}
 use Rattle.command_session.proofs.WholeLemmas.{own_both}
 use Rattle.file_commands.specs.declared.note.Subject.TheVariants as subject
 use Rattle.file_commands.specs.declared.note.FaultNote.{FaultNote}
@@ -48,54 +57,174 @@ use Rattle.state_commands.specs.StateEffects.{restore_notes, restore_reply}
 use Rattle.command_session.specs.WholeCalls.{read_notes}
 use Rattle.command_session.specs.Doing.{Did, IsRestoreAnswer}
 
-closed-settled : (line : LineOf ℕ) → line ≡ unconnected None → IsSettled line
-closed-settled line is = subst IsSettled (sym is) (record { port = λ _. refl; nothing = λ _. refl; keys = omega arith; output = omega arith })
+-- ---- lines to which nobody is connected
 
-closed-at : (place : ℕ) (lines : List (LineOf ℕ)) (line : LineOf ℕ) → slice_get lines place ≡ Some line → AreClosed lines → line ≡ unconnected None
-closed-at place [] line at closed = absurd (cc)
-closed-at zero (l ∷ lines) line at closed = sym (same_Some l line at) ∙ closed.0
-closed-at (suc place) (l ∷ lines) line at closed = closed-at place lines line at closed.1
+-- nobody is connected to any of these lines
+abbrev AreFree : List (LineOf ℕ) → Type 0
+AreFree lines = AllByRecursion (λ (line : LineOf ℕ). line.connection ≡ None) lines
 
--- a wanted port was refused
-refused-left : (tells : Bool) (port : ℕ) (before : List (LineOf ℕ)) (fault : ListenFault) (old new : LineState) → IsListening tells port (Err fault) old new
-    → LinesLeft tells old before new before
-refused-left tells port before fault old new is = left-unlistened tells old new before port fault is
+closed-free : (lines : List (LineOf ℕ)) → AreClosed lines → AreFree lines
+closed-free [] closed = tt
+closed-free (line ∷ lines) closed = (ap (λ (l : LineOf ℕ). l.connection) closed.0, closed-free lines closed.1)
+
+free-at : (place : ℕ) (lines : List (LineOf ℕ)) (line : LineOf ℕ) → slice_get lines place ≡ Some line → AreFree lines → line.connection ≡ None
+free-at place [] line at free = absurd (cc)
+free-at zero (l ∷ lines) line at free = ap (λ (x : LineOf ℕ). x.connection) (sym (same_Some l line at)) ∙ free.0
+free-at (suc place) (l ∷ lines) line at free = free-at place lines line at free.1
+
+unlinked : (o : Option ℕ) (conn : ℕ) → o ≡ None → o ≡ Some conn → ⊥
+unlinked o conn none own = true≢false (ap is_some (sym own ∙ none))
+
+free-apart : (s : LineState) (lines : List (LineOf ℕ)) → AreFree lines → AreApart s lines
+free-apart s lines free = record {
+  linked = λ i line at conn own. absurd (unlinked line.connection conn (free-at i lines line at free) own);
+  apart = λ i j one other differ here there conn own its. absurd (unlinked one.connection conn (free-at i lines one here free) own);
+}
+
+none-connected : (conn : ℕ) (lines : List (LineOf ℕ)) → AreFree lines → ¬ HasConnection conn lines
+none-connected conn [] free = λ has. has
+none-connected conn (line ∷ lines) free =
+    λ has. elim has [ inl own ↦ unlinked line.connection conn free.0 own | inr later ↦ none-connected conn lines free.1 later ]
+
+no-port : (port : ℕ) (lines : List (LineOf ℕ)) → NoneHas port lines → ¬ HasPort port lines
+no-port port [] none = λ has. has
+no-port port (line ∷ lines) none = λ has. elim has [ inl own ↦ none.0 own | inr later ↦ no-port port lines none.1 later ]
+
+has-at : (port place : ℕ) (lines : List (LineOf ℕ)) → slice_get lines place ≡ Some (unconnected (Some port)) → HasPort port lines
+has-at port place [] at = absurd (cc)
+has-at port zero (line ∷ lines) at = inl (ap (λ (l : LineOf ℕ). l.port) (same_Some line (unconnected (Some port)) at))
+has-at port (suc place) (line ∷ lines) at = inr (has-at port place lines at)
+
+closed-listened : (s : LineState) (lines : List (LineOf ℕ)) → AreClosed lines → AreListened s lines
+closed-listened s [] closed = tt
+closed-listened s (line ∷ lines) closed =
+    (subst (λ (o : Option ℕ). IfSome o (IsListened s)) (sym (ap (λ (l : LineOf ℕ). l.port) closed.0)) tt, closed-listened s lines closed.1)
+
+-- ---- what is told of a row of listenings
+
+tells-grows : (ports : List ℕ) (old new : Told) → TellsEach ports old new → IsFirst (record_in old) (record_in new)
+tells-grows [] old new same = subst (λ (t : Told). IsFirst (record_in old) (record_in t)) (sym same) (first-same (record_in old))
+tells-grows (port ∷ ports) old new (mid, (gives, later)) = first-through (record_in old) (record_in mid) (record_in new) gives.grows (tells-grows ports mid new later)
+
+listens-grows : (fault : ListenFault) (old new : Told) → Listens old new (Err fault) → IsFirst (record_in old) (record_in new)
+listens-grows listen.Failed old new gives = gives.grows
+listens-grows listen.OutOfMemory old new same = subst (λ (t : Told). IsFirst (record_in old) (record_in t)) (sym same) (first-same (record_in old))
+
+unless-said : (said : Replied) (answer : LineAnswer) (ahead : Ahead) (more : Ahead → Replied) → said ≡ replied answer ahead
+    → unless_failed said.answer said.ahead more ≡ unless_failed answer ahead more
+unless-said said answer ahead more is = ap (λ (r : Replied). unless_failed r.answer r.ahead more) is
+
+each-said : (ports : List ℕ) (old new : Told) (whole : List LineAnswer) → TellsEach ports old new → IsFirst (record_in new) whole
+    → listening_each ports (ahead_of old whole) ≡ replied Quiet (ahead_of new whole)
+unfolding listening_each
+each-said [] old new whole same first = ap (λ (t : Told). replied Quiet (ahead_of t whole)) (sym same)
+each-said (port ∷ ports) old new whole (mid, (gives, later)) first =
+    unless-said (listening (ahead_of old whole)) Quiet (ahead_of mid whole) (listening_each ports)
+    (gives.gives whole (first-through (record_in mid) (record_in new) whole (tells-grows ports mid new later) first))
+    ∙ each-said ports mid new whole later first
+
+failed-said : (before behind : List ℕ) (refused : ℕ) (old mid new : Told) (whole : List LineAnswer) → TellsEach before old mid → Gives mid new listening Failed → IsFirst (record_in new) whole
+    → listening_each (before ++ (refused ∷ behind)) (ahead_of old whole) ≡ replied Failed (ahead_of new whole)
+unfolding listening_each
+failed-said [] behind refused old mid new whole same gives first =
+    ap (λ (t : Told). listening_each (refused ∷ behind) (ahead_of t whole)) (sym same)
+    ∙ unless-said (listening (ahead_of mid whole)) Failed (ahead_of new whole) (listening_each behind) (gives.gives whole first)
+failed-said (port ∷ before) behind refused old mid new whole (next, (one, later)) gives first =
+    unless-said (listening (ahead_of old whole)) Quiet (ahead_of next whole) (listening_each (before ++ (refused ∷ behind)))
+    (one.gives whole (first-through (record_in next) (record_in new) whole
+    (first-through (record_in next) (record_in mid) (record_in new) (tells-grows before next mid later) gives.grows) first))
+    ∙ failed-said before behind refused next mid new whole later gives first
+
+-- ---- what is left of the lines
 
 -- the session was put back
-done-left : (tells : Bool) (port : ℕ) (before : List (LineOf ℕ)) (old new : LineState) → AreClosed before → LeavesLines tells port before (Ok tt) old new
-    → LinesLeft tells old before new (with_port port before)
-done-left tells zero before old new closed left = subst (λ (s : LineState). LinesLeft tells old before s before) (sym (left.1 refl)) (lines-kept tells old before before refl)
-done-left tells (suc n) before old new closed left = by (slice_get before terminal_place) refl
+done-left : (tells : Bool) (listed : Bool) (p : SavedPorts) (before : List (LineOf ℕ)) (old new : LineState) → ArePorts listed p → 0 < length before → AreClosed before
+    → ListensEach tells (ports_wanted p before) (Ok tt) old new → LinesLeft tells old before new (with_ports (assigned p before) before)
+done-left tells listed p before old new are some closed each = record {
+  ports = λ port is. elim (listened-before given old.listens port (ap (λ (f : ℕ → Bool). f port) (sym each.row.listens) ∙ is)) [
+    | inl was ↦ inr (was, no-port port before (closed-none port before closed))
+    | inr (g, same, among) ↦ inl (has-at port g.0 after (among (HasAt after) there ∙ ap (λ (n : ℕ). Some (unconnected (Some n))) same))
+  ];
+  owned = λ conn is. inr (ap (λ (f : ℕ → Bool). f conn) (sym each.stands) ∙ is, none-connected conn before (closed-free before closed));
+  later = let same = each.counted in omega (arith, same);
+  many = given-length given before;
+  session = λ apart. apart-given (length before) given before ones (free-each given) apart;
+  listened = λ apart all. every-given (λ (line : LineOf ℕ). IfSome line.port (IsListened new)) given before
+      (subst (λ (f : ℕ → Bool). AllByRecursion (λ (g : ℕ × ℕ). IsTrue (f g.1)) given) (sym each.row.listens) (given-listened given old.listens))
+      (closed-listened new before closed);
+  told = λ is apart. (
+    free-apart new after (every-given (λ (line : LineOf ℕ). line.connection ≡ None) given before (all-free given) (closed-free before closed)),
+    tells-grows (ports_wanted p before) old.told new.told (each.row.told is),
+  );
+  heard = λ is. hears-equal old.sent new.sent each.sent;
+}
   where
-    given : LineOf ℕ
-    given = unconnected (Some (suc n))
+    given : List (ℕ × ℕ)
+    given = assigned p before
 
-    by : (o : Option (LineOf ℕ)) → slice_get before terminal_place ≡ o → LinesLeft tells old before new (with_port (suc n) before)
-    by None none =
-        subst (λ (ls : List (LineOf ℕ)). LinesLeft tells old before new ls) (sym (changed-none (λ (l : LineOf ℕ). given) terminal_place before none))
-        (subst (λ (s : LineState). LinesLeft tells old before s before) (sym (left.1 (ap is_some none))) (lines-kept tells old before before refl))
-    by (Some line) at =
-        let free = closed-at terminal_place before line at closed in
-        subst (λ (ls : List (LineOf ℕ)). LinesLeft tells old before new ls) (changed-set (λ (l : LineOf ℕ). given) terminal_place before line at)
-        (left-listened terminal_place tells old new before line (suc n) at (left.0 (ap is_some at)) (ap (λ (l : LineOf ℕ). l.port) free) (closed-settled line free)
-        (session-listened before (suc n) (λ none. absurd (omega (arith, none)))))
+    after : List (LineOf ℕ)
+    after = with_ports given before
 
-pub restore-done : (tells : Bool) (port : ℕ) (before after : List (LineOf ℕ)) (old new : LineState) → AreClosed before → LeavesLines tells port before (Ok tt) old new
-    → after ≡ with_port port before → LinesLeft tells old before new after
-restore-done tells port before after old new closed left is =
-    subst (λ (ls : List (LineOf ℕ)). LinesLeft tells old before new ls) (sym is) (done-left tells port before old new closed left)
+    ones : AreGiven (length before) given
+    ones = all-given listed p before are some
+
+    there : AllByRecursion (HasAt after) given
+    there = given-there (length before) given before refl ones
+
+    all-free : (gs : List (ℕ × ℕ)) → AllByRecursion (λ (g : ℕ × ℕ). (unconnected {P = ℕ} (Some g.1)).connection ≡ None) gs
+    all-free [] = tt
+    all-free (g ∷ gs) = (refl, all-free gs)
+
+    free-each : (gs : List (ℕ × ℕ)) → AllByRecursion (λ (g : ℕ × ℕ). NoneHas g.1 before) gs
+    free-each [] = tt
+    free-each (g ∷ gs) = (closed-none g.1 before closed, free-each gs)
+
+pub restore-done : (tells : Bool) (listed : Bool) (p : SavedPorts) (before after : List (LineOf ℕ)) (old new : LineState) → ArePorts listed p → 0 < length before → AreClosed before
+    → LeavesLines tells (ports_wanted p before) (Ok tt) old new → after ≡ with_ports (assigned p before) before → LinesLeft tells old before new after
+restore-done tells listed p before after old new are some closed left is =
+    subst (λ (ls : List (LineOf ℕ)). LinesLeft tells old before new ls) (sym is) (done-left tells listed p before old new are some closed left.0)
 
 same-left : (tells : Bool) (before : List (LineOf ℕ)) (old new : LineState) → new ≡ old → LinesLeft tells old before new before
 same-left tells before old new same = subst (λ (s : LineState). LinesLeft tells old before s before) (sym same) (lines-kept tells old before before refl)
 
-pub restore-refused : (tells : Bool) (port : ℕ) (before after : List (LineOf ℕ)) (fault : RestoreFault) (old new : LineState) → LeavesLines tells port before (Err fault) old new
-    → after ≡ before → LinesLeft tells old before new after
-restore-refused tells port before after fault old new left is = subst (λ (ls : List (LineOf ℕ)). LinesLeft tells old before new ls) (sym is) (by fault left)
+later-raised : (count : ℕ) → count ≤ raised count
+later-raised count = omega arith
+
+-- a wanted port was refused
+refused-left : (tells : Bool) (ports : List ℕ) (before : List (LineOf ℕ)) (fault : ListenFault) (old new : LineState) → AreClosed before → ListensEach tells ports (Err fault) old new
+    → LinesLeft tells old before new before
+refused-left tells ports before fault old new closed each = record {
+  ports = λ port is. inr (
+    given-up-before each.row.before old.listens port (ap (λ (f : ℕ → Bool). f port) (sym each.row.listens) ∙ is),
+    no-port port before (closed-none port before closed),
+  );
+  owned = λ conn is. inr (ap (λ (f : ℕ → Bool). f conn) (sym each.stands) ∙ is, none-connected conn before (closed-free before closed));
+  later = subst (λ (n : ℕ). old.faults ≤ n) (sym each.counted) (counted fault);
+  many = refl;
+  session = λ apart. apart;
+  listened = λ apart all. closed-listened new before closed;
+  told = λ is apart. (
+    free-apart new before (closed-free before closed),
+    (let chain = each.row.told is in
+    first-through (record_in old.told) (record_in chain.0) (record_in new.told) (tells-grows each.row.before old.told chain.0 chain.1.0)
+    (listens-grows fault chain.0 new.told chain.1.1)),
+  );
+  heard = λ is. hears-equal old.sent new.sent each.sent;
+}
   where
-    by : (fault : RestoreFault) → LeavesLines tells port before (Err fault) old new → LinesLeft tells old before new before
-    by restore.Port left = refused-left tells port before listen.Failed old new left.1
+    counted : (fault : ListenFault) → old.faults ≤ listen_faults (Err fault) old.faults
+    counted listen.Failed = later-raised old.faults
+    counted listen.OutOfMemory = omega arith
+
+pub restore-refused : (tells : Bool) (ports : List ℕ) (before after : List (LineOf ℕ)) (fault : RestoreFault) (old new : LineState) → AreClosed before → LeavesLines tells ports (Err fault) old new
+    → after ≡ before → LinesLeft tells old before new after
+restore-refused tells ports before after fault old new closed left is = subst (λ (ls : List (LineOf ℕ)). LinesLeft tells old before new ls) (sym is) (by fault left)
+  where
+    by : (fault : RestoreFault) → LeavesLines tells ports (Err fault) old new → LinesLeft tells old before new before
+    by restore.Port left = refused-left tells ports before listen.Failed old new closed left
     by restore.OutOfMemory (inl same) = same-left tells before old new same
-    by restore.OutOfMemory (inr refused) = refused-left tells port before listen.OutOfMemory old new refused.1
+    by restore.OutOfMemory (inr refused) = refused-left tells ports before listen.OutOfMemory old new closed refused
+    by restore.MissingUnit same = same-left tells before old new same
     by (restore.NoFile unit) same = same-left tells before old new same
     by (restore.TooLong unit) same = same-left tells before old new same
     by (restore.Changed unit) same = same-left tells before old new same
@@ -103,43 +232,34 @@ restore-refused tells port before after fault old new left is = subst (λ (ls : 
 
 -- ---- what it comes to
 
-wants-seen : (port : ℕ) (s : LineState) (lines : List (LineOf ℕ)) → wants_port port (map (seen_line s) lines) ≡ wants_port port lines
-wants-seen zero s lines = refl
-wants-seen (suc n) s lines = ap is_some (slice_get-map (seen_line s) lines terminal_place) ∙ by (slice_get lines terminal_place)
-  where
-    by : (o : Option (LineOf ℕ)) → is_some (option_map (seen_line s) o) ≡ is_some o
-    by None = refl
-    by (Some line) = refl
-
 -- where no file is refused, by what is left of the lines: the session is put back
 module _ (used : ℕ) (s : State) (live new : Live) (old after : LineState) (whole : List LineAnswer) (lines : List (LineOf ℕ))
     (seen : live.lines ≡ map (seen_line old) lines) (ahead : live.ahead ≡ ahead_of old.told whole) where
-  wanted-seen : wants_port s.port live.lines ≡ wants_port s.port lines
-  wanted-seen = ap (wants_port s.port) seen ∙ wants-seen s.port old lines
+  wanted-seen : ports_wanted s.ports live.lines ≡ ports_wanted s.ports lines
+  wanted-seen = ap (ports_wanted s.ports) seen ∙ ports-seen s.ports old lines
 
-  pub back-ends : (b : Bool) → wants_port s.port lines ≡ b → LeavesLines true s.port lines (Ok tt) old after → IsFirst (record_in after.told) whole
+  -- by what its listenings say
+  heard-ends : (said : Replied) → listening_each (ports_wanted s.ports lines) (ahead_of old.told whole) ≡ said → restored_by None used s live ≡ listened_back said used s live
+  heard-ends said is =
+      ap (λ (r : Replied). listened_back r used s live)
+      ((λ i. listening_each (wanted-seen i) (ahead i)) ∙ is)
+
+  pub back-ends : LeavesLines true (ports_wanted s.ports lines) (Ok tt) old after → IsFirst (record_in after.told) whole
       → new ≡ record (put_back s live) { ahead = ahead_of after.told whole }
       → restored_by None used s live ≡ ends (Ok Go) used new
-  back-ends true wanted left first is =
-      let heard : IsListening true s.port (Ok tt) old after = left.0 wanted in
-      let said = (heard.told refl).gives whole first in
-      ap (λ (b : Bool). ported_back b used s live) (wanted-seen ∙ wanted)
-      ∙ ap (λ (r : Replied). listened_back r used s live) (ap listening ahead ∙ said)
+  back-ends left first is =
+      heard-ends (replied Quiet (ahead_of after.told whole)) (each-said (ports_wanted s.ports lines) old.told after.told whole (left.0.row.told refl) first)
       ∙ ap (ends (Ok Go) used) (sym is)
-  back-ends false wanted left first is =
-      let same = left.1 wanted in
-      ap (λ (b : Bool). ported_back b used s live) (wanted-seen ∙ wanted)
-      ∙ ap (ends (Ok Go) used)
-      (sym (is ∙ (λ i. record (put_back s live) { ahead = ahead_of (same i).told whole }) ∙ (λ i. record (put_back s live) { ahead = sym ahead i })))
 
-  -- or its port is not to be had
-  pub port-ends : IsRefusedPort true s.port lines restore.Port old after → IsFirst (record_in after.told) whole
+  -- or a port of it is not to be had
+  pub port-ends : ListensEach true (ports_wanted s.ports lines) (Err listen.Failed) old after → IsFirst (record_in after.told) whole
       → restored_by None used s live ≡ ends (Err PortFailed) used (record live { ahead = ahead_of after.told whole })
-  port-ends refused first =
-      let heard : IsListening true s.port (Err listen.Failed) old after = refused.1 in
-      let said = (heard.told refl).gives whole first in
-      ap (λ (b : Bool). ported_back b used s live) (wanted-seen ∙ refused.0)
-      ∙ ap (λ (r : Replied). listened_back r used s live) (ap listening ahead ∙ said)
+  port-ends each first =
+      let cut = each.row in
+      let chain = cut.told refl in
+      heard-ends (replied Failed (ahead_of after.told whole))
+      (ap (λ (ports : List ℕ). listening_each ports (ahead_of old.told whole)) cut.parts
+      ∙ failed-said cut.before cut.behind cut.refused old.told chain.0 after.told whole chain.1.0 chain.1.1 first)
 
 -- ---- the answer's other sides
 
@@ -148,6 +268,7 @@ restore-unasked (restore.Failed f) P comes never = comes (λ is. is)
 restore-unasked (restore.NoFile unit) P comes never = comes (λ is. is)
 restore-unasked (restore.TooLong unit) P comes never = comes (λ is. is)
 restore-unasked (restore.Changed unit) P comes never = comes (λ is. is)
+restore-unasked restore.MissingUnit P comes never = comes (λ is. is)
 restore-unasked restore.Port P comes never = absurd (never tt)
 restore-unasked restore.OutOfMemory P comes never = absurd (never tt)
 
@@ -158,14 +279,14 @@ nothing-more n = omega arith
 pub refused-by : (live new : Live) (force : Bool) (name : List ℕ) (w : Whole) (number : ℕ) (tells : Bool) (out : Output) (notes notes' : List FaultNote) (bytes : List ℕ) (s : State)
     (fault : RestoreFault) (answer : Answer) (old after : LineState) (whole : List LineAnswer) (lines : List (LineOf ℕ))
     → is_occupied (attached_in live.machine) live.lines ≡ false → reading bytes ≡ Ok s → whole_act (claimed w) name live.files ≡ (WholeIs bytes, length (claimed w))
-    → live.lines ≡ map (seen_line old) lines → live.ahead ≡ ahead_of old.told whole
-    → SaysFirst (Err fault) (first_refused (claim_in (Err fault)) force s.files no_attachments live.files) → LeavesLines true s.port lines (Err fault) old after
+    → live.lines ≡ map (seen_line old) lines → live.ahead ≡ ahead_of old.told whole → SaysMissing (Err fault) (misses_unit s.machine live.machine.units)
+    → SaysFirst (Err fault) (first_refused (claim_in (Err fault)) force s.files no_attachments live.files) → LeavesLines true (ports_wanted s.ports lines) (Err fault) old after
     → IsFirst (record_in after.told) whole → new ≡ record live { lines = map (seen_line after) lines; ahead = ahead_of after.told whole } → answer ≡ Err (restore_fault fault)
     → notes' ≡ (notes ++ read_notes subject.State (record { command = number; time = live.machine.time }) w) ++ restore_notes (record { command = number; time = live.machine.time }) fault
     → Did (λ (own : List CommandNote). restore_reply own live force name) number answer new tells out out (notes_said notes) (notes_said notes')
-refused-by live new force name w number tells out notes notes' bytes s fault answer old after whole lines free is read seen ahead says left first leaves answered noted =
+refused-by live new force name w number tells out notes notes' bytes s fault answer old after whole lines free is read seen ahead missing says left first leaves answered noted =
     subst (λ (a : Answer). Did (λ (own : List CommandNote). restore_reply own live force name) number a new tells out out (notes_said notes) (notes_said notes')) (sym answered)
-    (by fault says left noted)
+    (by fault missing says left noted)
   where
     stamp : Stamp
     stamp = record { command = number; time = live.machine.time }
@@ -177,23 +298,26 @@ refused-by live new force name w number tells out notes notes' bytes s fault ans
         ∙ (λ i. record live { lines = sym seen i; ahead = sym ahead i })
 
     file : (unit : UnitName) (refusal : FileRefusal) (answer : Answer) → IsRestoreAnswer answer → refusal_used refusal ≡ 0 → Err (refusal_fault unit refusal) ≡ answer
-        → first_refused None force s.files no_attachments live.files ≡ Some (unit, refusal) → after ≡ old → notes' ≡ notes ++ read_notes subject.State stamp w
+        → misses_unit s.machine live.machine.units ≡ false → first_refused None force s.files no_attachments live.files ≡ Some (unit, refusal) → after ≡ old → notes' ≡ notes ++ read_notes subject.State stamp w
         → Did (λ (own : List CommandNote). restore_reply own live force name) number answer new tells out out (notes_said notes) (notes_said notes')
-    file unit refusal answer plain none answered refused still noted =
-        back-did live force name w free number tells out notes notes' bytes s is read answer new live plain
+    file unit refusal answer plain none answered found refused still noted =
+        back-did live force name w free number tells out notes notes' bytes s is read found answer new live plain
         (ap (λ (o : Option (UnitName × FileRefusal)). restored_by o (length (own_both subject.State live.machine.time 0 w.failed w.closing)) s live) refused
         ∙ (λ i. ends (answered i) ((ap (λ (n : ℕ). length (own_both subject.State live.machine.time 0 w.failed w.closing) + n) none ∙ nothing-more _) i) live)) (same still) noted
 
-    by : (f : RestoreFault) → SaysFirst (Err f) (first_refused (claim_in (Err f)) force s.files no_attachments live.files) → LeavesLines true s.port lines (Err f) old after
+    by : (f : RestoreFault) → SaysMissing (Err f) (misses_unit s.machine live.machine.units) → SaysFirst (Err f) (first_refused (claim_in (Err f)) force s.files no_attachments live.files)
+        → LeavesLines true (ports_wanted s.ports lines) (Err f) old after
         → notes' ≡ (notes ++ read_notes subject.State stamp w) ++ restore_notes stamp f
         → Did (λ (own : List CommandNote). restore_reply own live force name) number (Err (restore_fault f)) new tells out out (notes_said notes) (notes_said notes')
-    by (restore.NoFile unit) says left noted = file unit IsMissing (Err NoFile) tt refl refl says left (noted ∙ append-nil _)
-    by (restore.TooLong unit) says left noted = file unit IsTooLong (Err FileTooLong) tt refl refl says left (noted ∙ append-nil _)
-    by (restore.Changed unit) says left noted = file unit HasChanged (Err (Changed unit)) tt refl refl says left (noted ∙ append-nil _)
-    by (restore.Failed f) says left noted = failed-did live force name w free number tells out notes notes' bytes s is read f new says (same left) noted
-    by restore.Port says left noted =
-        back-did live force name w free number tells out notes notes' bytes s is read (Err PortFailed) new (record live { ahead = ahead_of after.told whole }) tt
+    by restore.MissingUnit missing says left noted =
+        missing-did live force name w free number tells out notes notes' bytes s is read missing new (same left) (noted ∙ append-nil _)
+    by (restore.NoFile unit) found says left noted = file unit IsMissing (Err NoFile) tt refl refl found says left (noted ∙ append-nil _)
+    by (restore.TooLong unit) found says left noted = file unit IsTooLong (Err FileTooLong) tt refl refl found says left (noted ∙ append-nil _)
+    by (restore.Changed unit) found says left noted = file unit HasChanged (Err (Changed unit)) tt refl refl found says left (noted ∙ append-nil _)
+    by (restore.Failed f) found says left noted = failed-did live force name w free number tells out notes notes' bytes s is read found f new says (same left) noted
+    by restore.Port found says left noted =
+        back-did live force name w free number tells out notes notes' bytes s is read found (Err PortFailed) new (record live { ahead = ahead_of after.told whole }) tt
         (ap (λ (o : Option (UnitName × FileRefusal)). restored_by o (length (own_both subject.State live.machine.time 0 w.failed w.closing)) s live) says
         ∙ port-ends (length (own_both subject.State live.machine.time 0 w.failed w.closing)) s live new old after whole lines seen ahead left first)
-        (leaves ∙ (λ i. record live { lines = (seen-still old after lines left.1.behind ∙ sym seen) i; ahead = ahead_of after.told whole })) (noted ∙ append-nil _)
-    by restore.OutOfMemory says left noted = unread-want live force name w free number tells out notes notes' new (noted ∙ append-nil _)
+        (leaves ∙ (λ i. record live { lines = (seen-still old after lines left.behind ∙ sym seen) i; ahead = ahead_of after.told whole })) (noted ∙ append-nil _)
+    by restore.OutOfMemory found says left noted = unread-want live force name w free number tells out notes notes' new (noted ∙ append-nil _)

@@ -154,6 +154,7 @@ counted-fault stamp f old new only is = elim (split-fault f old new is) [
 restore-counted : (stamp : Stamp) (tells : Bool) (fault : RestoreFault) (old new : FileState) → OnlyNewCounts old new → SessionCause tells (Err fault) old new
     → AreCounted (restore_notes stamp fault) old new
 restore-counted stamp tells (restore.Failed f) old new only cause = counted-fault stamp f old new only cause
+restore-counted stamp tells restore.MissingUnit old new only cause = counted-only old new only
 restore-counted stamp tells (restore.NoFile unit) old new only cause = counted-only old new only
 restore-counted stamp tells (restore.TooLong unit) old new only cause = counted-only old new only
 restore-counted stamp tells (restore.Changed unit) old new only cause = counted-only old new only
@@ -218,6 +219,7 @@ failed-once (Some id) file before now once = by (id.0 == file) once
 restore-once : (stamp : Stamp) (fault : RestoreFault) (old new : FileState) → ClosesOnce (Err fault) old new
     → (file : ℕ) → AtMostOnceMore (raised_by (noted file (restore_notes stamp fault)) (old.faults file)) (new.faults file)
 restore-once stamp (restore.Failed f) old new once file = failed-once f.file file (old.faults file) (new.faults file) (once file)
+restore-once stamp restore.MissingUnit old new once file = once file
 restore-once stamp (restore.NoFile unit) old new once file = once file
 restore-once stamp (restore.TooLong unit) old new once file = once file
 restore-once stamp (restore.Changed unit) old new once file = once file
@@ -231,6 +233,7 @@ restore-exact stamp tells fault old new only unused unused' cause once =
   where
     by : (fault : RestoreFault) → SessionCause tells (Err fault) old new → (file : ℕ) → (IsNewId old new file → ⊥) → new.faults file ≡ raised_by (noted file (restore_notes stamp fault)) (old.faults file)
     by (restore.Failed f) cause file none = restore-before stamp f old new only unused unused' cause file none
+    by restore.MissingUnit cause file none = unchanged-before file old new only unused unused' none
     by (restore.NoFile unit) cause file none = unchanged-before file old new only unused unused' none
     by (restore.TooLong unit) cause file none = unchanged-before file old new only unused unused' none
     by (restore.Changed unit) cause file none = unchanged-before file old new only unused unused' none
@@ -259,6 +262,7 @@ restore-named stamp tells (restore.Failed f) old new is = by f.call refl
     by call.Write same = of-file (λ opening. absurd (let both : call.Write ≡ call.Opening = sym same ∙ opening in cc)) ∙ ap openings_in (sym same)
     by call.SetLength same = of-file (λ opening. absurd (let both : call.SetLength ≡ call.Opening = sym same ∙ opening in cc)) ∙ ap openings_in (sym same)
     by call.Closing same = of-file (λ opening. absurd (let both : call.Closing ≡ call.Opening = sym same ∙ opening in cc)) ∙ ap openings_in (sym same)
+restore-named stamp tells restore.MissingUnit old new is = refl
 restore-named stamp true (restore.NoFile unit) old new is = refl
 restore-named stamp false (restore.NoFile unit) old new is = refl
 restore-named stamp tells (restore.TooLong unit) old new is = refl
@@ -266,17 +270,19 @@ restore-named stamp tells (restore.Changed unit) old new is = refl
 restore-named stamp tells restore.Port old new is = refl
 restore-named stamp tells restore.OutOfMemory old new is = refl
 
--- each such refusal may have given files back
-restore-gives : (P : Bool → Type 0) (fault : RestoreFault) → P true → P (gives_back (Err (restore_fault fault)))
-restore-gives P (restore.Failed f) all = all
-restore-gives P (restore.NoFile unit) all = all
-restore-gives P (restore.TooLong unit) all = all
-restore-gives P (restore.Changed unit) all = all
-restore-gives P restore.Port all = all
-restore-gives P restore.OutOfMemory all = all
+-- each such refusal may have given files back, but that of a missing unit
+restore-gives : (P : Bool → Type 0) (fault : RestoreFault) → (fault ≡ restore.MissingUnit → P false) → P true → P (gives_back (Err (restore_fault fault)))
+restore-gives P (restore.Failed f) none all = all
+restore-gives P restore.MissingUnit none all = none refl
+restore-gives P (restore.NoFile unit) none all = all
+restore-gives P (restore.TooLong unit) none all = all
+restore-gives P (restore.Changed unit) none all = all
+restore-gives P restore.Port none all = all
+restore-gives P restore.OutOfMemory none all = all
 
 few-more : (stamp : Stamp) (fault : RestoreFault) → length (restore_notes stamp fault) ≤ 1
 few-more stamp (restore.Failed f) = omega arith
+few-more stamp restore.MissingUnit = omega arith
 few-more stamp (restore.NoFile unit) = omega arith
 few-more stamp (restore.TooLong unit) = omega arith
 few-more stamp (restore.Changed unit) = omega arith
@@ -285,6 +291,7 @@ few-more stamp restore.OutOfMemory = omega arith
 
 stamped-more : (number time : ℕ) (fault : RestoreFault) → AllByRecursion (IsStamped number time) (restore_notes (record { command = number; time = time }) fault)
 stamped-more number time (restore.Failed f) = ((refl, refl), tt)
+stamped-more number time restore.MissingUnit = tt
 stamped-more number time (restore.NoFile unit) = tt
 stamped-more number time (restore.TooLong unit) = tt
 stamped-more number time (restore.Changed unit) = tt
@@ -306,6 +313,7 @@ more-cause stamp tells (restore.NoFile unit) shut old mid new closings later cau
     (subst AllClosings (sym (append-nil shut)) closings, λ untold. rose-later old.open_faults mid.open_faults new.open_faults later (cause.0 untold))
 more-cause stamp tells (restore.TooLong unit) shut old mid new closings later cause = subst AllClosings (sym (append-nil shut)) closings
 more-cause stamp tells (restore.Changed unit) shut old mid new closings later cause = subst AllClosings (sym (append-nil shut)) closings
+more-cause stamp tells restore.MissingUnit shut old mid new closings later cause = subst AllClosings (sym (append-nil shut)) closings
 more-cause stamp tells restore.Port shut old mid new closings later cause = subst AllClosings (sym (append-nil shut)) closings
 more-cause stamp tells restore.OutOfMemory shut old mid new closings later cause = subst AllClosings (sym (append-nil shut)) closings
 
@@ -342,6 +350,7 @@ module _ (number time now : ℕ) (tells : Bool) (w : Whole) (v : Vec ℕ) (is : 
     exact =
         subst (λ (a : Answer). AreExact (gives_back a) (read_notes subject.State stamp_here w ++ restore_notes stamp_here fault) old new) (sym answered)
         (restore-gives (λ (b : Bool). AreExact b (read_notes subject.State stamp_here w ++ restore_notes stamp_here fault) old new) fault
+        (exact-missing fault cause)
         (exact-both true (read_notes subject.State stamp_here w) (restore_notes stamp_here fault) old mid new (exact-kept true (read_notes subject.State stamp_here w) old mid first-exact)
         (restore-exact stamp_here tells fault mid new only unused unused' cause once)));
     openings =
@@ -359,6 +368,19 @@ module _ (number time now : ℕ) (tells : Bool) (w : Whole) (v : Vec ℕ) (is : 
         (more-cause stamp_here tells fault (read_notes subject.State stamp_here w) old mid new (read-closings stamp_here w v is shape) first-counted.openings.0 cause);
   }
     where
+      -- where a unit is missing, no file was asked for
+      exact-missing : (why : RestoreFault) → SessionCause tells (Err why) mid new → why ≡ restore.MissingUnit
+          → AreExact false (read_notes subject.State stamp_here w ++ restore_notes stamp_here why) old new
+      exact-missing restore.MissingUnit same is =
+          exact-both false (read_notes subject.State stamp_here w) [] old mid new first-exact
+          (exact-when false [] mid new (λ file. ap (λ (s : FileState). s.faults file) same) only.ids)
+      exact-missing (restore.Failed f) same is = absurd (cc)
+      exact-missing (restore.NoFile unit) same is = absurd (cc)
+      exact-missing (restore.TooLong unit) same is = absurd (cc)
+      exact-missing (restore.Changed unit) same is = absurd (cc)
+      exact-missing restore.Port same is = absurd (cc)
+      exact-missing restore.OutOfMemory same is = absurd (cc)
+
       few-read : (failed closing : Option FailedCall) → length (both_notes subject.State stamp_here 0 failed closing) ≤ 2
       few-read None None = omega arith
       few-read None (Some c) = omega arith
@@ -420,6 +442,7 @@ restore-own stamp tells fault slots slots' notes notes' old new cause from only 
 
     by : (fault : RestoreFault) → SessionCause tells (Err fault) old new → AllByRecursion (IsOwnNote slots old new) (restore_notes stamp fault)
     by (restore.Failed f) cause = (own-of f cause, tt)
+    by restore.MissingUnit cause = tt
     by (restore.NoFile unit) cause = tt
     by (restore.TooLong unit) cause = tt
     by (restore.Changed unit) cause = tt
@@ -445,6 +468,7 @@ want-why fault.OutOfMemory is = refl
 -- where memory ran out there is no note
 pub no-notes : (fault : RestoreFault) (stamp : Stamp) → ◌≡◌ {A = Answer} (Err (restore_fault fault)) (Err OutOfMemory) → restore_notes stamp fault ≡ []
 no-notes (restore.Failed f) stamp is = absurd (cc)
+no-notes restore.MissingUnit stamp is = refl
 no-notes (restore.NoFile unit) stamp is = refl
 no-notes (restore.TooLong unit) stamp is = refl
 no-notes (restore.Changed unit) stamp is = refl

@@ -11,6 +11,7 @@ pub restored-can : (force : Bool) (f : RestoreFault) (fault : CommandFault) → 
 restored-can force f fault compared is = subst (λ (x : CommandFault). OfRestore force (Err x)) (sym is) (by-fault f compared)
   where
     by-fault : (f : RestoreFault) → IsCompared force (Err f) → OfRestore force (Err (restore_fault f))
+    by-fault restore.MissingUnit h = tt
     by-fault (restore.NoFile unit) h = tt
     by-fault (restore.TooLong unit) h = tt
     by-fault (restore.Changed unit) h = h

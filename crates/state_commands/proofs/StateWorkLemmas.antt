@@ -51,6 +51,7 @@ refused-works why f old mid new opens more names = subst (λ (x : CommandFault).
     opened = omega (arith, opens, more)
 
     by-fault : (why : RestoreFault) → RestoreWorks (Err (restore_fault why)) old new
+    by-fault restore.MissingUnit = tt
     by-fault (restore.NoFile unit) = tt
     by-fault (restore.TooLong unit) = opened
     by-fault (restore.Changed unit) = opened

@@ -1,6 +1,6 @@
 -- SAVE and RESTORE (SIMH Users' Guide, "Saving and Restoring Simulator State").
 use Rattle.std.specs.Prelude.{ℕ, ◌+◌, ◌==◌, Bool, true, false, List, [], ◌∷◌, drop, Option, Some, None, Result, Ok, Err, if◌then◌else◌}
-use Rattle.host_lines.specs.Traffic.{Answer as LineAnswer, Failed, Replied, listening}
+use Rattle.host_lines.specs.Traffic.{Answer as LineAnswer, Quiet, Failed, Ahead, Replied, replied, listening}
 use Rattle.unit_trait.specs.declared.kind.UnitName.{UnitName}
 use Rattle.unit_files.specs.Acts.{Failure}
 use Rattle.unit_files.specs.Attachments.{no_attachments}
@@ -18,17 +18,16 @@ use Rattle.saved_files.specs.declared.file_faults.SaveFault.{SaveFault}
 use Rattle.saved_files.specs.declared.file_faults.SaveFault.TheVariants as save
 use Rattle.saved_files.specs.declared.file_faults.RestoreFault.{RestoreFault}
 use Rattle.saved_files.specs.declared.file_faults.RestoreFault.TheVariants as restore
-use Rattle.state_transfer.specs.Listening.{wants_port}
+use Rattle.state_transfer.specs.Ports.{ports_wanted}
 use Rattle.saved_session.specs.Parts.{State}
-use Rattle.state_transfer.specs.PutBack.{put_back}
+use Rattle.state_transfer.specs.PutBack.{misses_unit, put_back}
 use Rattle.state_text.specs.Reading.{reading}
 use Rattle.saved_files.specs.Putting.{FileRefusal, IsMissing, IsTooLong, HasChanged, CallFails, first_refused}
 use Rattle.saved_files.specs.Taking.{first_unsaved, files_flushed, copy_flushed}
 use Rattle.state_transfer.specs.Session.{saved}
 use Rattle.state_text.specs.Text.{text}
-use Rattle.command_session.specs.declared.next.Next.TheVariants.{Go}
 use Rattle.command_session.specs.declared.fault.CommandFault.{CommandFault}
-use Rattle.command_session.specs.declared.fault.CommandFault.TheVariants.{AlreadyAttached, NoFile, FileTooLong, FileFailed, Changed}
+use Rattle.command_session.specs.declared.fault.CommandFault.TheVariants.{AlreadyAttached, NoFile, FileTooLong, FileFailed, MissingUnit, Changed}
 use Rattle.state_commands.specs.StateFaults.{state_fault}
 use Rattle.command_session.specs.LineEffects.{listen_answer}
 use Rattle.command_session.specs.Live.{Live, standing}
@@ -108,7 +107,18 @@ abbrev pub restore_notes : Stamp → RestoreFault → List FaultNote
 restore_notes stamp (restore.Failed f) = fault_note stamp f ∷ []
 restore_notes stamp fault = []
 
--- the saved session is put back, where its port is listened on
+-- goes on with what is still to come, unless a listening failed
+abbrev pub unless_failed : LineAnswer → Ahead → (Ahead → Replied) → Replied
+unless_failed Failed ahead more = replied Failed ahead
+unless_failed answer ahead more = more ahead
+
+-- ports are listened on, one behind another, up to the first that is not to be had
+unfoldable pub listening_each : List ℕ → Ahead → Replied
+listening_each [] ahead = replied Quiet ahead
+listening_each (port ∷ more) ahead =
+    unless_failed (listening ahead).answer (listening ahead).ahead (listening_each more)
+
+-- the saved session is put back, where all its ports are listened on
 abbrev pub heard_live : LineAnswer → State → Live → Live
 heard_live Failed s live = live
 heard_live answer s live = put_back s live
@@ -120,10 +130,6 @@ listened_back said used s live = record {
   after = standing used (record (heard_live said.answer s live) { ahead = said.ahead });
 }
 
-abbrev pub ported_back : Bool → ℕ → State → Live → Reply
-ported_back true used s live = listened_back (listening live.ahead) used s live
-ported_back false used s live = record { made = []; answer = Ok Go; after = standing used (put_back s live) }
-
 -- by the first of its files that is refused, if one is
 abbrev pub restored_by : Option (UnitName × FileRefusal) → ℕ → State → Live → Reply
 restored_by (Some refusal) used s live = record {
@@ -131,13 +137,19 @@ restored_by (Some refusal) used s live = record {
   answer = Err (refusal_fault refusal.0 refusal.1);
   after = standing (used + refusal_used refusal.1) live;
 }
-restored_by None used s live = ported_back (wants_port s.port live.lines) used s live
+restored_by None used s live = listened_back (listening_each (ports_wanted s.ports live.lines) live.ahead) used s live
+
+-- no file is asked for where the session has a unit that is missing
+abbrev pub unless_missing : Bool → ℕ → Live → Reply → Reply
+unless_missing true used live reply = record { made = []; answer = Err MissingUnit; after = standing used live }
+unless_missing false used live reply = reply
 
 -- by what the bytes of its file say
 abbrev pub restored_as : Bool → ℕ → List CommandNote → Result State StateFault → Live → Reply
 restored_as force used notes (Err fault) live = record { made = []; answer = Err (state_fault fault); after = standing used live }
 restored_as force used notes (Ok s) live =
-    restored_by (first_refused (unit_claim live.machine.time notes) force s.files no_attachments live.files) used s live
+    unless_missing (misses_unit s.machine live.machine.units) used live
+    (restored_by (first_refused (unit_claim live.machine.time notes) force s.files no_attachments live.files) used s live)
 
 -- by what is said of its file
 abbrev pub restored_from : Bool → WholeSaid × ℕ → List CommandNote → Live → Reply
@@ -147,8 +159,8 @@ restored_from force (TooLong, used) notes live = record { made = []; answer = Er
 restored_from force (CallFailed, used) notes live = record { made = []; answer = Err (FileFailed subject.State); after = standing used live }
 
 -- RESTORE reads a state file whole and closes it again, attaches the files that it names, of which each has to be as it was
--- unless that is forced, listens on its port, and puts the machine and the watch tables back. It prints nothing. A session
--- that has something attached is left as it is.
+-- unless that is forced, listens on its ports, and puts the machine and the watch tables back. It prints nothing. A session
+-- that has something attached is left as it is, and so is one that lacks a unit of the saved one.
 unfoldable pub restore_reply : List CommandNote → Live → Bool → List ℕ → Reply
 restore_reply notes live force name =
     if is_occupied (attached_in live.machine) live.lines then refused AlreadyAttached live

@@ -8,7 +8,7 @@ use Rattle.saved_files.specs.declared.file_faults.RestoreFault.{RestoreFault}
 use Rattle.saved_files.specs.declared.file_faults.RestoreFault.TheVariants as restore
 use Rattle.command_session.specs.declared.fault.CommandFault.{CommandFault}
 use Rattle.command_session.specs.declared.fault.CommandFault.TheVariants.{NoFile, FileTooLong, FileFailed, PortFailed, OutOfMemory}
-use Rattle.command_session.specs.declared.fault.CommandFault.TheVariants.{NotState, Version, BadDigest, BadField, Truncated, Changed}
+use Rattle.command_session.specs.declared.fault.CommandFault.TheVariants.{NotState, Version, BadDigest, BadField, Truncated, MissingUnit, Changed}
 
 -- the fault of a state file
 abbrev pub state_fault : StateFault → CommandFault
@@ -25,6 +25,7 @@ save_fault (save.Failed f) = FileFailed (subject.Unit f.unit)
 save_fault save.OutOfMemory = OutOfMemory
 
 abbrev pub restore_fault : RestoreFault → CommandFault
+restore_fault restore.MissingUnit = MissingUnit
 restore_fault (restore.NoFile unit) = NoFile
 restore_fault (restore.TooLong unit) = FileTooLong
 restore_fault (restore.Changed unit) = Changed unit

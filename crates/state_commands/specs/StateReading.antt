@@ -65,7 +65,7 @@ failure_of file read = None
 
 -- the words of memory that were read so far
 abbrev pub words_read : StateReader → Vec ℕ
-words_read reader = reader.reading.part.second.first.items
+words_read reader = reader.reading.part.behind.first.items
 
 -- The same answer as one of a file that is read whole. Of its bytes it says nothing: the words of memory stand for them.
 abbrev pub bytes_for : Result StateReader WholeFault → Result (Vec ℕ) WholeFault

@@ -1,5 +1,5 @@
 // RESTORE.
-ghost use Rattle.std.specs.Prelude.{◌≡◌, ◌≢◌, ◌<◌, ◌≤◌, ◌++◌, ℕ, Bool, true, false, List, Some, IsTrue, IfOk, OnOk, Err, vec_len, vec_capacity};
+ghost use Rattle.std.specs.Prelude.{◌≡◌, ◌≢◌, ◌<◌, ◌≤◌, ◌++◌, ℕ, Bool, true, false, List, Some, IsTrue, IfOk, OnOk, Err, length, vec_len, vec_capacity};
 ghost use Rattle.file_traits.specs.State.{Opened};
 ghost use Rattle.unit_files.specs.Buffer.{nothing_attached};
 ghost use Rattle.unit_files.specs.Open.{AllOpen, Around};
@@ -25,7 +25,7 @@ ghost use Rattle.whole_files.specs.declared.whole.WholeFault.TheVariants.{OutOfM
 ghost use Rattle.whole_files.specs.Claims.{WholeCause};
 ghost use Rattle.command_session.specs.Live.{live_in, beyond};
 ghost use Rattle.command_session.specs.DiskFile.{StaysInStep};
-ghost use Rattle.command_session.specs.LinesLeft.{LinesLeft, Unlistened, AttachCause};
+ghost use Rattle.command_session.specs.LinesLeft.{LinesLeft, Unlistened, RestoreCause};
 ghost use Rattle.state_commands.specs.RestoredLines.{RestoresLines};
 ghost use Rattle.command_session.specs.Refusals.{IsUnrefused};
 ghost use Rattle.state_commands.specs.StateAnswers.{PutsBack};
@@ -54,14 +54,15 @@ use unit_trait::Unit;
 use whole_files::WholeFault;
 
 /// RESTORE reads the state file of a name piece by piece and closes it again, attaches the files that it names in bus
-/// order, each only to be read where it was and else to be changed, listens on its port, and puts the machine and the
+/// order, each only to be read where it was and else to be changed, listens on its ports, and puts the machine and the
 /// watch tables back as they were saved. Unless that is forced, each file has to have the length and the digest that it
-/// had. It prints nothing, and resets nothing.
+/// had. It prints nothing, and resets nothing. The file may be one of this version or of the first one.
 ///
-/// The refusals, in this order: `AlreadyAttached` where a unit has a file or a line a port; `NoFile`, `FileFailed` and
-/// `FileTooLong` of the state file, which has at most 1048576 bytes; the faults of its bytes; then of each file
+/// The refusals, in this order: `AlreadyAttached` where a unit has a file or a line a port, that of the console too;
+/// `NoFile`, `FileFailed` and `FileTooLong` of the state file, which has at most 1048576 bytes; the faults of its bytes;
+/// `MissingUnit` where the machine lacks a unit of the session, before the file of any unit is opened; then of each file
 /// `NoFile`, `FileFailed` of its opening or its length, `FileTooLong`, `FileFailed` of a read, and `Changed`; and last
-/// `PortFailed`. `OutOfMemory` may come from the reading on. Behind a refusal the session is as it was, and each file
+/// `PortFailed`, of the first port that is not to be had. `OutOfMemory` may come from the reading on. Behind a refusal the session is as it was, and each file
 /// that was opened is closed. Each call that failed is noted, but for the closing of a unit's file that was refused.
 #[tactic(auto, unfolding(crate::specs::StateEffects::restore_reply))]
 pub fn restore<U: Unit, F: Files, L: Lines>(
@@ -88,7 +89,7 @@ pub fn restore<U: Unit, F: Files, L: Lines>(
         session.new.machine.lines }
     ensures sent { (L.state lines.new).sent ≡ (L.state lines.old).sent }
     ensures unasked { IsRefused result → (Unlistened result → ⊥) → lines.new ≡ lines.old }
-    ensures listening { AttachCause L.tells result (L.state lines.old) (L.state lines.new) }
+    ensures listening { RestoreCause L.tells result (L.state lines.old) (L.state lines.new) }
     ensures line { result ≢ Err OutOfMemory → RestoresLines L.tells result (L.state lines.old)
         session.old.machine.lines (L.state lines.new) session.new.machine.lines }
     ensures step { IsTrue F.tells
@@ -170,15 +171,17 @@ fn is_occupied<U: Unit>(machine: &Machine<U>) -> bool
     ensures test { result ≡ is_occupied (attached_in machine.now) machine.now.lines }
     ensures nothing { result ≡ false → attached_files machine.now ≡ nothing_attached }
     ensures closed { result ≡ false → AreClosed machine.now.lines }
+    ensures there { result ≡ false → 0 < length machine.now.lines }
 {
     !machine.attached().is_empty() || is_ported(machine)
 }
 
 // Whether the console line or a terminal line has a port.
-#[tactic(auto, using(crate::proofs::ConsoleFirst::console_first))]
+#[tactic(auto, using(crate::proofs::ConsoleFirst::console_first, crate::proofs::ConsoleFirst::console_there))]
 fn is_ported<U: Unit>(machine: &Machine<U>) -> bool
     ensures test { result ≡ has_port machine.now.lines }
     ensures closed { result ≡ false → AreClosed machine.now.lines }
+    ensures there { 0 < length machine.now.lines }
 {
     machine.console_at().port().is_some() || has_port(machine.lines())
 }

@@ -35,6 +35,7 @@ pub fn fault_of_restore(fault: RestoreFault) -> CommandFault
     ensures { result ≡ restore_fault fault }
 {
     match fault {
+        RestoreFault::MissingUnit => CommandFault::MissingUnit,
         RestoreFault::NoFile(_) => CommandFault::NoFile,
         RestoreFault::TooLong(_) => CommandFault::FileTooLong,
         RestoreFault::Changed(unit) => CommandFault::Changed(unit),

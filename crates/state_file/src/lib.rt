@@ -3,7 +3,8 @@
 
 pub use saved_files::{RestoreFault, SaveFault, attach_all, digest_all};
 pub use saved_session::{
-    Saved, SavedBreak, SavedCpu, SavedEvent, SavedExpect, SavedFile, SavedSend, SavedUnit,
+    Saved, SavedBreak, SavedCpu, SavedEvent, SavedExpect, SavedFile, SavedPorts, SavedSend,
+    SavedUnit,
 };
 pub use state_text::{
     StateFault, StateReader, read_state, state_texts_are_one_to_one, valid_states_are_read,

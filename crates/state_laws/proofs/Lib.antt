@@ -1,7 +1,9 @@
+pub mod LinesBack
 pub mod PutBackLemmas
 pub mod SavedLemmas
 pub mod SavedWatchLemmas
 pub mod SavedFileLemmas
+pub mod SavedPortLemmas
 pub mod SavedValidLemmas
 pub mod PutBackValidLemmas
 pub mod PutBackWatchLemmas

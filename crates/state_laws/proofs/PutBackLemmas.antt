@@ -1,6 +1,6 @@
 -- What was saved of a session is put back.
-use Rattle.std.proofs.Common.{◌≡◌, ◌≢◌, ℕ, zero, suc, ◌+◌, ◌-◌, ◌*◌, ◌/◌, ◌^◌, ◌<◌, Bool, true, false, List, [], ◌∷◌, ◌++◌, length, take, drop, map, replicate, get_or, Option, Some, None, refl, sym, ap, subst, ◌∙◌, arith}
-use Rattle.std.specs.Prelude.{slice_get, slice_set}
+use Rattle.std.proofs.Common.{◌≡◌, ◌≢◌, ℕ, zero, suc, ◌+◌, ◌-◌, ◌*◌, ◌/◌, ◌^◌, ◌<◌, ◌&&◌, not, Bool, true, false, List, [], ◌∷◌, ◌++◌, length, take, drop, map, replicate, get_or, append-nil, Option, Some, None, refl, sym, ap, subst, ◌∙◌, arith}
+use Rattle.std.specs.Prelude.{slice_set, if◌then◌else◌}
 use Rattle.std.specs.List.{AllByRecursion}
 use Rattle.std.proofs.lemmas.List.Concat.{flat_map-cons}
 use Rattle.std.proofs.Math.Seq.{get_or-append_seam, set-append_seam}
@@ -13,6 +13,7 @@ use Rattle.telnet_lines.specs.Joined.{seen_line}
 use Rattle.unit_trait.specs.declared.kind.Kind.{Kind}
 use Rattle.unit_trait.specs.declared.kind.Kind.TheVariants.{Dsk, Mta, Lpt, Ptr, Ptp, Clk, Tti, Tto, Tti1, Tto1, Qty}
 use Rattle.unit_trait.specs.declared.kind.UnitName.{UnitName}
+use Rattle.unit_trait.specs.Kinds.{code_of}
 use Rattle.unit_trait.specs.Calls.{UnitState}
 use Rattle.event_queue.specs.EventList.{Event}
 use Rattle.unit_files.specs.Attachments.{Attachment, Held, attachments_of, no_attachments, attachment_at, with_attachment, file_place, file_units}
@@ -23,8 +24,8 @@ use Rattle.expect_actions.specs.declared.expects.Expect.{Expect}
 use Rattle.expect_actions.specs.Sends.{Send}
 use Rattle.expect_actions.specs.Watch.{WatchState, forgotten}
 use Rattle.unit_list.specs.BusOrder.{place_of}
-use Rattle.nova_machine.specs.Machine.{MachineState, place_of as line_place}
-use Rattle.terminal_ports.specs.Ports.{changed_at, HaveNone, OnlyOneHas}
+use Rattle.unit_list.specs.Bus.{kinds_of}
+use Rattle.nova_machine.specs.Machine.{MachineState, has_multiplexer}
 use Rattle.nova_machine.specs.Seen.{Seen, unnumbered, erased, attached_in}
 use Rattle.nova_machine.specs.Valid.{CopyIsFile}
 use Rattle.saved_session.specs.Parts.{FilePart}
@@ -32,13 +33,15 @@ use Rattle.saved_session.specs.Ranges.{kind_at}
 use Rattle.saved_files.specs.declared.taking.UnitPlace.{UnitPlace}
 use Rattle.saved_files.specs.Putting.{attachment_of, with_all, copy_of}
 use Rattle.saved_files.specs.Taking.{unit_at, file_places, flag_of, saved_file, saved_at, saved_files}
-use Rattle.state_transfer.specs.Session.{saved_unit, saved_event, saved_machine, port_number, port_of, saved_port, saved}
+use Rattle.state_transfer.specs.Session.{saved_unit, saved_event, saved_machine, saved_ports, saved}
 use Rattle.saved_session.specs.SavedWatch.{saved_break, saved_expect, saved_send, saved_watch}
 use Rattle.state_transfer.specs.Processor.{is_set}
-use Rattle.state_transfer.specs.PutBack.{memory_from, unit_from, unit_named, event_from, held_from, machine_from, port_from, lines_from, put_back, IsIdleLine, CanBeSaved}
+use Rattle.state_transfer.specs.PutBack.{memory_from, unit_from, missing_from, first_multiplexer, units_from, unit_named, event_from, held_from, machine_from, lines_from, put_back, IsIdleLine, CanBeSaved}
 use Rattle.state_laws.specs.Laws.{SavingPutsBack}
 use Rattle.saved_session.specs.SavedWatch.{break_from, expect_from, send_from, watch_from}
+use Rattle.unit_list.proofs.Calls.{there-kinds}
 use Rattle.state_transfer.proofs.TakenSizes.{size-back}
+use Rattle.state_laws.proofs.LinesBack.{lines-back}
 
 -- ---- numbers and lists
 
@@ -80,6 +83,23 @@ units-back : (us : List UnitState) → map unit_from (map saved_unit us) ≡ us
 units-back [] = refl
 units-back (u ∷ us) = λ i. record { kind = kind-back u.kind i; registers = u.registers } ∷ units-back us i
 
+-- the multiplexer is missing in no machine of the same kinds
+none-missing : (us present : List UnitState) → kinds_of present ≡ kinds_of us → missing_from us present ≡ []
+none-missing us present same =
+    ap (λ (b : Bool). missing-by b (has_multiplexer us)) (there-kinds (code_of Qty) present us same) ∙ by (has_multiplexer us)
+  where
+    missing-by : Bool → Bool → List UnitState
+    missing-by there here = if there && not here then first_multiplexer ∷ [] else []
+
+    by : (b : Bool) → missing-by b b ≡ []
+    by true = refl
+    by false = refl
+
+all-units-back : (us present : List UnitState) → kinds_of present ≡ kinds_of us → units_from (map saved_unit us) present ≡ us
+all-units-back us present same =
+    ap (λ (l : List UnitState). l ++ missing_from l present) (units-back us)
+    ∙ ap (λ (l : List UnitState). us ++ l) (none-missing us present same) ∙ append-nil us
+
 events-back : (es : List Event) → map event_from (map saved_event es) ≡ es
 events-back [] = refl
 events-back (e ∷ es) = λ i. record { unit = name-back e.unit i; remaining = e.remaining } ∷ events-back es i
@@ -92,8 +112,8 @@ all-zero zero (x ∷ l) size h = absurd (omega (arith, size))
 all-zero (suc n) [] size h = absurd (omega (arith, size))
 all-zero (suc n) (x ∷ l) size h = λ i. h 0 i ∷ all-zero n l (omega (arith, size)) (λ k. h (suc k)) i
 
-memory-back : (m : MemoryState) → IsMemory m → IsSize m.size → m.before ≡ false → memory_from false (m.size / 1024) (take m.size m.words) ≡ m
-memory-back m is size rule =
+memory-back : (m : MemoryState) → IsMemory m → IsSize m.size → memory_from (is_set (flag_of m.before)) (m.size / 1024) (take m.size m.words) ≡ m
+memory-back m is size =
     let back = size-back m.size size in
     let whole = is.whole in
     let rest : drop m.size m.words ≡ replicate (2 ^ 15 - m.size) 0 =
@@ -102,7 +122,7 @@ memory-back m is size rule =
     let words : take m.size m.words ++ replicate (2 ^ 15 - 1024 * (m.size / 1024)) 0 ≡ m.words =
     ap (λ (n : ℕ). take m.size m.words ++ replicate (2 ^ 15 - n) 0) back
     ∙ ap (λ (l : List ℕ). take m.size m.words ++ l) (sym rest) ∙ take-append-drop m.size m.words in
-    λ i. record { words = words i; size = back i; before = sym rule i }
+    λ i. record { words = words i; size = back i; before = flag-back m.before i }
 
 -- ---- files
 
@@ -212,13 +232,13 @@ copy-back (Some a) disk files copy written = λ i. record { bytes = sym (copy wr
 
 -- ---- the machine
 
-machine-back : (s : Seen) → CanBeSaved s
-    → machine_from (saved_machine s.machine)
+machine-back : (s : Seen) (present : List UnitState) → CanBeSaved s → kinds_of present ≡ kinds_of s.machine.units
+    → machine_from (saved_machine s.machine) present
     (with_all no_attachments (saved_files s.files (attached_in s.machine) file_places)) s.files ≡ s.machine
 unfolding saved_machine machine_from
-machine-back s can =
+machine-back s present can same =
     let m = s.machine in
-    let memory = memory-back m.processor.memory can.memory can.size can.rule in
+    let memory = memory-back m.processor.memory can.memory can.size in
     let twelve : length (attached_in m) ≡ file_units = length-map m.slots _ ∙ can.places in
     let attached = files-back s.files (attached_in m) twelve in
     let slots = ap (map held_from) attached ∙ numbers-back m.slots ∙ ap (λ (x : MachineState). x.slots) can.seen in
@@ -238,7 +258,7 @@ machine-back s can =
       ints = record { mask = m.ints.mask; on = flag-back m.ints.on i; hold = flag-back m.ints.hold i };
       sr = m.sr;
       stop_dev = flag-back m.stop_dev i;
-      units = units-back m.units i;
+      units = all-units-back m.units present same i;
       events = events-back m.events i;
       time = m.time;
       taken = m.taken;
@@ -271,55 +291,16 @@ watch-back w forgot =
       sends = sends-back w.sends i;
     }) ∙ sym forgot
 
--- ---- the port
-
-port-back : (port : Option ℕ) → port ≢ Some 0 → port_from (port_number port) ≡ port
-port-back None some = refl
-port-back (Some zero) some = absurd (some refl)
-port-back (Some (suc n)) some = refl
-
--- lines to which nobody is connected, and none of which has a port
-closed-back : (lines present : List (LineOf Peer)) → HaveNone lines → AllByRecursion IsIdleLine lines → length present ≡ length lines
-    → map (λ (line : LineOf Peer). unconnected None) present ≡ lines
-closed-back [] [] none idle same = refl
-closed-back [] (p ∷ present) none idle same = absurd (omega (arith, same))
-closed-back (line ∷ lines) [] none idle same = absurd (omega (arith, same))
-closed-back (line ∷ lines) (p ∷ present) none idle same =
-    ap (λ (x : Option ℕ). unconnected x ∷ map (λ (l : LineOf Peer). unconnected None) present) (sym none.0)
-    ∙ ap (λ (x : LineOf Peer). x ∷ map (λ (l : LineOf Peer). unconnected None) present) (sym idle.0.nobody)
-    ∙ ap (λ (l : List (LineOf Peer)). line ∷ l) (closed-back lines present none.1 idle.1 (omega (arith, same)))
-
--- .. and the line that may have one, at a place
-only-back : (place : ℕ) (lines present : List (LineOf Peer)) → OnlyOneHas place lines → AllByRecursion IsIdleLine lines → length present ≡ length lines
-    → changed_at place (λ (line : LineOf Peer). unconnected (port_from (port_of (slice_get lines place)))) (map (λ (line : LineOf Peer). unconnected None) present) ≡ lines
-only-back place [] [] only idle same = refl
-only-back place [] (p ∷ present) only idle same = absurd (omega (arith, same))
-only-back place (line ∷ lines) [] only idle same = absurd (omega (arith, same))
-only-back zero (line ∷ lines) (p ∷ present) only idle same =
-    ap (λ (x : Option ℕ). unconnected x ∷ map (λ (l : LineOf Peer). unconnected None) present) (port-back line.port idle.0.port)
-    ∙ ap (λ (x : LineOf Peer). x ∷ map (λ (l : LineOf Peer). unconnected None) present) (sym idle.0.nobody)
-    ∙ ap (λ (l : List (LineOf Peer)). line ∷ l) (closed-back lines present only idle.1 (omega (arith, same)))
-only-back (suc place) (line ∷ lines) (p ∷ present) only idle same =
-    let more : List (LineOf Peer) =
-    changed_at place (λ (l : LineOf Peer). unconnected (port_from (port_of (slice_get lines place)))) (map (λ (l : LineOf Peer). unconnected None) present) in
-    ap (λ (x : Option ℕ). unconnected x ∷ more) (sym only.0)
-    ∙ ap (λ (x : LineOf Peer). x ∷ more) (sym idle.0.nobody)
-    ∙ ap (λ (l : List (LineOf Peer)). line ∷ l) (only-back place lines present only.1 idle.1 (omega (arith, same)))
-
-lines-back : (lines present : List (LineOf Peer)) → OnlyOneHas (line_place 0) lines → AllByRecursion IsIdleLine lines
-    → length present ≡ length lines → lines_from (saved_port lines) present ≡ lines
-unfolding saved_port
-lines-back lines present only idle same = only-back (line_place 0) lines present only idle same
-
 -- ---- the whole
 
-back : (s present : Seen) → CanBeSaved s → present.files ≡ s.files → length present.lines ≡ length s.lines
-    → put_back (saved s) present ≡ record s { keys = present.keys; ahead = present.ahead }
-back s present can same as_many =
+back : (s present : Seen) → CanBeSaved s → present.files ≡ s.files → kinds_of present.machine.units ≡ kinds_of s.machine.units
+    → length present.lines ≡ length s.lines → put_back (saved s) present ≡ record s { keys = present.keys; ahead = present.ahead }
+back s present can same kinds as_many =
     let attached = with_all no_attachments (saved_files s.files (attached_in s.machine) file_places) in
-    let machine = ap (machine_from (saved_machine s.machine) attached) same ∙ machine-back s can in
+    let machine = ap (machine_from (saved_machine s.machine) present.machine.units attached) same
+    ∙ machine-back s present.machine.units can kinds in
     let watch = watch-back s.watch can.watch in
-    let lines = lines-back s.lines present.lines can.others can.idle as_many in
+    let lines = lines-back s.machine.units s.lines present.lines can.many as_many can.numbered can.idle in
     λ i. record {
       machine = machine i;
       watch = watch i;

@@ -1,31 +1,37 @@
 -- A machine is in range once a valid state was put back.
-use Rattle.std.proofs.Common.{◌≡◌, ℕ, zero, suc, ◌-◌, ◌*◌, ◌%◌, ◌<◌, ◌≤◌, ◌^◌, ◌&&◌, eqb, true, false, List, [], ◌∷◌, ◌++◌, length, map, take, replicate, get_or, Option, Some, None, IfSome, refl, sym, ap, subst, ◌∙◌, arith}
-use Rattle.std.specs.Prelude.{nat_le, bytes_eq, unwrap_or, slice_index_or}
+use Rattle.std.proofs.Common.{◌≡◌, ℕ, zero, suc, ◌+◌, ◌-◌, ◌*◌, ◌%◌, ◌<◌, ◌≤◌, ◌^◌, ◌&&◌, not, eqb, Bool, true, false, List, [], ◌∷◌, ◌++◌, length, map, take, replicate, get_or, append-nil, Option, Some, None, IfSome, inl, inr, refl, sym, ap, subst, ◌∙◌, arith}
+use Rattle.std.specs.Prelude.{nat_le, bytes_eq, unwrap_or, slice_index_or, if◌then◌else◌}
 use Rattle.std.specs.List.{AllByRecursion}
 use Rattle.std.proofs.Math.Seq.{get_or-append_right}
-use Rattle.std.proofs.lemmas.Bool.{cond_both, and_parts, leb-true, ltb-true, eqb-true}
+use Rattle.std.proofs.lemmas.Bool.{cond_both, and_parts, false≢true, leb-true, ltb-true, eqb-true}
 use Rattle.std.proofs.lemmas.List.{length-map, length-append, length-replicate, length-set}
 use Rattle.file_traits.specs.Lists.{NamedBytes, bytes_of, find_file}
 use Rattle.unit_trait.specs.declared.kind.Kind.{Kind}
 use Rattle.unit_trait.specs.declared.kind.UnitName.{UnitName}
-use Rattle.unit_trait.specs.Kinds.{all_kinds}
+use Rattle.unit_trait.specs.declared.kind.Kind.TheVariants.{Qty}
+use Rattle.unit_trait.specs.Kinds.{all_kinds, code_of}
+use Rattle.unit_trait.specs.Calls.{UnitState}
 use Rattle.unit_list.specs.Bus.{kinds_of}
+use Rattle.unit_list.proofs.Calls.{there-kinds}
 use Rattle.event_queue.specs.EventList.{Event}
 use Rattle.event_queue.specs.DueTimes.{scheduled}
 use Rattle.unit_files.specs.Attachments.{Attachment, attachments_of, attachment_at, file_place, file_units}
 use Rattle.unit_files.specs.Buffer.{disk_unit}
 use Rattle.nova_memory.specs.Memory.{IsMemory, IsSize}
-use Rattle.nova_machine.specs.Core.{IsAmong, AreListed}
+use Rattle.nova_machine.specs.Core.{AreListed}
+use Rattle.nova_machine.specs.Machine.{has_multiplexer}
 use Rattle.nova_machine.specs.Valid.{AreBytes, IsByteName, HasByteName, ValidMachine, CopyIsFile}
 use Rattle.saved_session.specs.declared.saved.SavedEvent.{SavedEvent}
 use Rattle.saved_session.specs.Parts.{FilePart, MachinePart}
-use Rattle.saved_session.specs.Ranges.{is_size, kind_at, standard_kinds, FilePlace, is_name_length}
+use Rattle.saved_session.specs.Ranges.{standard_kinds, is_size, kind_at, FilePlace, is_name_length}
 use Rattle.saved_session.specs.Valid.{AreWords, Follow, IsEvent, IsMachine, IsFile}
 use Rattle.saved_session.specs.Order.{with_event, behind_file}
 use Rattle.saved_files.specs.Putting.{unit_of, attachment_of, with_file, with_all, copy_of}
-use Rattle.state_transfer.specs.PutBack.{memory_from, unit_from, event_from, held_from, machine_from}
+use Rattle.state_transfer.specs.Processor.{is_set}
+use Rattle.state_transfer.specs.PutBack.{memory_from, lack_multiplexer, first_multiplexer, missing_from, units_from, event_from, held_from, machine_from}
+use Rattle.state_transfer.specs.SavedValid.{AreStandard}
 use Rattle.nova_machine.proofs.Each.{every-set}
-use Rattle.state_transfer.proofs.PutBackMachineLemmas.{units-fit, units-standard, events-sound, among-ten}
+use Rattle.state_transfer.proofs.PutBackMachineLemmas.{count-low, ten-more, units-standard, as-many-units, all-units-fit, among-standard, position-low, events-sound}
 
 -- ---- memory
 
@@ -56,9 +62,9 @@ zero-at zero k = refl
 zero-at (suc n) zero = refl
 zero-at (suc n) (suc k) = zero-at n k
 
-memory-is : (k : ℕ) (words : List ℕ) → is_size k ≡ true → length words ≡ 1024 * k → AreWords words
-    → IsMemory (memory_from false k words)
-memory-is k words is size are =
+memory-is : (before : Bool) (k : ℕ) (words : List ℕ) → is_size k ≡ true → length words ≡ 1024 * k → AreWords words
+    → IsMemory (memory_from before k words)
+memory-is before k words is size are =
     let most = (size-from k is).most in
     let rest : List ℕ = replicate (2 ^ 15 - 1024 * k) 0 in
     record {
@@ -100,14 +106,53 @@ slots-back [] = refl
 slots-back (None ∷ attached) = ap (λ (l : List (Option Attachment)). None ∷ l) (slots-back attached)
 slots-back (Some a ∷ attached) = ap (λ (l : List (Option Attachment)). Some a ∷ l) (slots-back attached)
 
+-- ---- the units
+
+-- one unit of each of these kinds
+abbrev of_kinds : List Kind → List UnitState
+of_kinds kinds = map (λ (kind : Kind). record { kind = kind; registers = [] }) kinds
+
+-- whether the multiplexer is among them
+has-none : (units : List UnitState) → kinds_of units ≡ take standard_kinds all_kinds → has_multiplexer units ≡ false
+has-none units ten = there-kinds (code_of Qty) units (of_kinds (take standard_kinds all_kinds)) ten
+
+has-one : (units : List UnitState) → kinds_of units ≡ all_kinds → has_multiplexer units ≡ true
+has-one units all = there-kinds (code_of Qty) units (of_kinds all_kinds) all
+
+-- what is missing of the multiplexer, where it is there or not, and here or not
+abbrev missing_by : Bool → Bool → List UnitState
+missing_by there here = if there && not here then first_multiplexer ∷ [] else []
+
+-- where it is here, nothing of it is missing
+whole-put : (units : List UnitState) (there : Bool) → kinds_of units ≡ all_kinds → kinds_of (units ++ missing_by there true) ≡ all_kinds
+whole-put units true all = ap (λ (l : List UnitState). kinds_of l) (append-nil units) ∙ all
+whole-put units false all = ap (λ (l : List UnitState). kinds_of l) (append-nil units) ∙ all
+
+-- the units have the kinds of the present ones, where no unit is missing among these
+pub kinds-put : (units present : List UnitState) → AreStandard units → AreStandard present → lack_multiplexer present units ≡ false
+    → kinds_of (units ++ missing_from units present) ≡ kinds_of present
+kinds-put units present (inl ten) (inl same) found =
+    ap (λ (b : Bool). kinds_of (units ++ missing_by b (has_multiplexer units))) (has-none present same)
+    ∙ ap (λ (l : List UnitState). kinds_of l) (append-nil units) ∙ ten ∙ sym same
+kinds-put units present (inl ten) (inr all) found =
+    (λ i. kinds_of (units ++ missing_by (has-one present all i) (has-none units ten i)))
+    ∙ ten-more units ten ∙ sym all
+kinds-put units present (inr all) (inl ten) found =
+    absurd (false≢true (sym found ∙ (λ i. has-one units all i && not (has-none present ten i))))
+kinds-put units present (inr all) (inr same) found =
+    ap (λ (b : Bool). kinds_of (units ++ missing_by (has_multiplexer present) b)) (has-one units all) ∙ whole-put units (has_multiplexer present) all ∙ sym same
+
 -- ---- the events
 
-events-listed : (kinds : List Kind) (front es : List SavedEvent) → take standard_kinds all_kinds ≡ kinds
-    → Follow IsEvent with_event front es → AreListed kinds (map event_from es)
-events-listed kinds front [] ten are = tt
-events-listed kinds front (e ∷ es) ten are = (
-  subst (λ (l : List Kind). IsAmong (kind_at e.position) l) ten (among-ten e.position are.0.position),
-  events-listed kinds (front ++ e ∷ []) es ten are.1,
+events-listed : (m : MachinePart) (present : List UnitState) → IsMachine m → (front es : List SavedEvent) → Follow (IsEvent (length m.units)) with_event front es
+    → AreListed (kinds_of (units_from m.units present)) (map event_from es)
+events-listed m present is front [] are = tt
+events-listed m present is front (e ∷ es) are = (
+  among-standard (units_from m.units present) e.position (units-standard m present is)
+      (let below = position-low (length m.units) e.position are.0.position in
+      let more = as-many-units m.units present in
+      omega (arith, below, more)),
+  events-listed m present is (front ++ e ∷ []) es are.1,
 )
 
 not-before : (now : ℕ) (es : List Event) → AllByRecursion (λ (x : ℕ × UnitName). now ≤ x.0) (scheduled now es)
@@ -139,21 +184,20 @@ names-put base least (f ∷ fs) have are =
 
 -- ---- the machine
 
-pub machine-in-range : (m : MachinePart) (attached : List (Option Attachment)) (files : List NamedBytes) → IsMachine m
+pub machine-in-range : (m : MachinePart) (present : List UnitState) (attached : List (Option Attachment)) (files : List NamedBytes) → IsMachine m
     → length attached ≡ file_units → AllByRecursion HasName attached
-    → AllByRecursion (λ (f : NamedBytes). AreBytes f.1) files → ValidMachine (machine_from m attached files)
+    → AllByRecursion (λ (f : NamedBytes). AreBytes f.1) files → ValidMachine (machine_from m present attached files)
 unfolding machine_from
-machine-in-range m attached files is places names bytes = record {
-  memory = memory-is m.cpu.size_k m.words is.cpu.size_k is.size is.words;
+machine-in-range m present attached files is places names bytes = record {
+  memory = memory-is (is_set m.cpu.autobit) m.cpu.size_k m.words is.cpu.size_k is.size is.words;
   size = size-from m.cpu.size_k is.cpu.size_k;
-  rule = refl;
   cpu = record { four = is.cpu.few; words = is.cpu.acs; pc = ltb-true m.cpu.pc 32768 is.cpu.pc };
   mask = is.cpu.mask;
   switches = is.cpu.sr;
   core = record {
-    registers = units-fit 0 m.units is.units;
-    sound = events-sound [] m.agenda is.agenda;
-    listed = events-listed (kinds_of (map unit_from m.units)) [] m.agenda (sym (units-standard m is)) is.agenda;
+    registers = all-units-fit m.units present is.units;
+    sound = events-sound (length m.units) [] m.agenda (count-low (length m.units) is.all) is.agenda;
+    listed = events-listed m present is [] m.agenda is.agenda;
     times = not-before m.cpu.time (map event_from m.agenda);
   };
   places = length-map attached held_from ∙ places;

@@ -1,5 +1,5 @@
 -- A machine is valid as it is saved.
-use Rattle.std.proofs.Common.{◌≡◌, ℕ, suc, ◌+◌, ◌/◌, ◌%◌, ◌<◌, ◌≤◌, ◌^◌, ◌&&◌, eqb, Bool, true, false, List, [], ◌∷◌, ◌++◌, length, map, take, All, Option, Some, inl, inr, refl, sym, ap, subst, ◌∙◌, arith}
+use Rattle.std.proofs.Common.{◌≡◌, ◌⊎◌, ℕ, suc, ◌+◌, ◌/◌, ◌%◌, ◌<◌, ◌≤◌, ◌^◌, ◌&&◌, eqb, Bool, true, false, List, [], ◌∷◌, ◌++◌, length, map, take, All, Option, Some, inl, inr, refl, sym, ap, subst, ◌∙◌, arith}
 use Rattle.std.specs.Prelude.{nat_lt, slice_get, option_map}
 use Rattle.std.specs.List.{AllByRecursion, IsDistinct, list_any}
 use Rattle.std.proofs.lemmas.Bool.{and_from, and_parts, or_from, not_from_false, false_from_ne_true, both_ways, le-leb, lt-ltb, ltb-true, eq-eqb, eqb-true}
@@ -24,7 +24,7 @@ use Rattle.nova_machine.specs.Run.{last_time}
 use Rattle.nova_machine.specs.Valid.{ValidMachine}
 use Rattle.expect_actions.specs.KeysFile.{most_keys}
 use Rattle.saved_session.specs.declared.saved.SavedEvent.{SavedEvent}
-use Rattle.saved_session.specs.Ranges.{is_flag, is_size, is_address, kind_at, standard_kinds, is_position, register_count, within_limits, holds_value, most_events, is_event_of, is_later}
+use Rattle.saved_session.specs.Ranges.{is_flag, is_size, is_address, kind_at, standard_kinds, most_kinds, is_unit_count, is_position, register_count, within_limits, holds_value, most_events, is_event_of, is_later}
 use Rattle.saved_session.specs.Valid.{AreWords, Follow, IsCpu, CanHold, IsUnit, IsEvent, IsMachine}
 use Rattle.saved_session.specs.Order.{next_number, with_event}
 use Rattle.saved_files.specs.Taking.{flag_of}
@@ -71,6 +71,7 @@ cpu-is m valid time taken = record {
   mask = valid.mask;
   sr = valid.switches;
   stop_dev = flag-is m.stop_dev;
+  autobit = flag-is m.processor.memory.before;
   time = le-leb m.time last_time time;
   keys_taken = le-leb m.taken most_keys taken;
 }
@@ -140,23 +141,44 @@ unfolding AreAt
 units-follow i [] at fit = tt
 units-follow i (u ∷ us) at fit = (unit-is i u at.0 fit.0, units-follow (i + 1) us at.1 fit.1)
 
-standard-at : AreAt 0 (take standard_kinds all_kinds)
-unfolding AreAt
-standard-at = (refl, (refl, (refl, (refl, (refl, (refl, (refl, (refl, (refl, (refl, tt))))))))))
+-- ---- the kinds of a machine
+
+-- the kind is one of the first so many
+Low : ℕ → Kind → Type 0
+Low count k = is_position count (place_of k) ≡ true
+
+-- as many kinds as a machine has, each at its position
+record IsBus (kinds : List Kind) : Type 0 where
+  count : is_unit_count (length kinds) ≡ true
+  at : AreAt 0 kinds
+  low : AllByRecursion (Low (length kinds)) kinds
+
+ten-bus : IsBus (take standard_kinds all_kinds)
+unfolding AreAt Low
+ten-bus = record {
+  count = refl;
+  at = (refl, (refl, (refl, (refl, (refl, (refl, (refl, (refl, (refl, (refl, tt))))))))));
+  low = (refl, (refl, (refl, (refl, (refl, (refl, (refl, (refl, (refl, (refl, tt))))))))));
+}
+
+whole-bus : IsBus all_kinds
+unfolding AreAt Low
+whole-bus = record {
+  count = refl;
+  at = (refl, (refl, (refl, (refl, (refl, (refl, (refl, (refl, (refl, (refl, (refl, tt)))))))))));
+  low = (refl, (refl, (refl, (refl, (refl, (refl, (refl, (refl, (refl, (refl, (refl, tt)))))))))));
+}
+
+bus-is : (units : List UnitState) → AreStandard units → IsBus (kinds_of units)
+bus-is units (inl ten) = subst (λ (l : List Kind). IsBus l) (sym ten) ten-bus
+bus-is units (inr all) = subst (λ (l : List Kind). IsBus l) (sym all) whole-bus
 
 -- ---- the events
 
-Low : Kind → Type 0
-Low k = is_position (place_of k) ≡ true
-
-among-low : (ks : List Kind) (k : Kind) → AllByRecursion Low ks → IsAmong k ks → Low k
-among-low [] k all among = absurd among
-among-low (x ∷ ks) k all (inl same) = subst Low same all.0
-among-low (x ∷ ks) k all (inr later) = among-low ks k all.1 later
-
-standard-low : AllByRecursion Low (take standard_kinds all_kinds)
-unfolding Low
-standard-low = (refl, (refl, (refl, (refl, (refl, (refl, (refl, (refl, (refl, (refl, tt))))))))))
+among-low : (count : ℕ) (ks : List Kind) (k : Kind) → AllByRecursion (Low count) ks → IsAmong k ks → Low count k
+among-low count [] k all among = absurd among
+among-low count (x ∷ ks) k all (inl same) = subst (Low count) same all.0
+among-low count (x ∷ ks) k all (inr later) = among-low count ks k all.1 later
 
 none-any : {A : Type 0} (p : A → Bool) (xs : List A) → AllByRecursion (λ (x : A). p x ≡ false) xs
     → list_any p xs ≡ false
@@ -205,11 +227,11 @@ still front e (x ∷ es) can times units = (
   still front e es can.1 times.1 units.1,
 )
 
-event-is : (front : List SavedEvent) (e : Event) → CanFollow front e → Low e.unit.kind
+event-is : (count : ℕ) (front : List SavedEvent) (e : Event) → CanFollow front e → Low count e.unit.kind
     → e.unit.unit < units_of e.unit.kind
-    → e.remaining < 2 ^ 32 → IsEvent front (saved_event e)
+    → e.remaining < 2 ^ 32 → IsEvent count front (saved_event e)
 unfolding Low
-event-is front e can low unit remaining =
+event-is count front e can low unit remaining =
     let here : nat_lt e.unit.unit (units_of (kind_at (place_of e.unit.kind))) ≡ true =
     ap (λ (k : Kind). nat_lt e.unit.unit (units_of k)) (kind-back e.unit.kind) ∙ lt-ltb e.unit.unit
     (units_of e.unit.kind) unit in
@@ -221,13 +243,13 @@ event-is front e can low unit remaining =
       last = not_from_false _ (none-any (is_later e.remaining) front can.times);
     }
 
-agenda-follows : (front : List SavedEvent) (es : List Event) → AllByRecursion (CanFollow front) es → Sound es
-    → AllByRecursion (λ (e : Event). Low e.unit.kind) es → Follow IsEvent with_event front (map saved_event es)
+agenda-follows : (count : ℕ) (front : List SavedEvent) (es : List Event) → AllByRecursion (CanFollow front) es → Sound es
+    → AllByRecursion (λ (e : Event). Low count e.unit.kind) es → Follow (IsEvent count) with_event front (map saved_event es)
 unfolding IsDistinct
-agenda-follows front [] can sound low = tt
-agenda-follows front (e ∷ es) can sound low = (
-  event-is front e can.0 low.0 sound.units.0 sound.times.0,
-  agenda-follows (front ++ saved_event e ∷ []) es (still front e es can.1 sound.rising.0 sound.distinct.0)
+agenda-follows count front [] can sound low = tt
+agenda-follows count front (e ∷ es) can sound low = (
+  event-is count front e can.0 low.0 sound.units.0 sound.times.0,
+  agenda-follows count (front ++ saved_event e ∷ []) es (still front e es can.1 sound.rising.0 sound.distinct.0)
       (sound-behind e es sound) low.1,
 )
 
@@ -235,10 +257,10 @@ none-before : (es : List Event) → AllByRecursion (CanFollow []) es
 none-before [] = tt
 none-before (e ∷ es) = (record { units = tt; times = tt }, none-before es)
 
-listed-low : (ks : List Kind) (es : List Event) → AllByRecursion Low ks → AreListed ks es
-    → AllByRecursion (λ (e : Event). Low e.unit.kind) es
-listed-low ks [] low listed = tt
-listed-low ks (e ∷ es) low listed = (among-low ks e.unit.kind low listed.0, listed-low ks es low listed.1)
+listed-low : (count : ℕ) (ks : List Kind) (es : List Event) → AllByRecursion (Low count) ks → AreListed ks es
+    → AllByRecursion (λ (e : Event). Low count e.unit.kind) es
+listed-low count ks [] low listed = tt
+listed-low count ks (e ∷ es) low listed = (among-low count ks e.unit.kind low listed.0, listed-low count ks es low listed.1)
 
 -- ---- the machine
 
@@ -249,19 +271,18 @@ machine-valid m valid time taken standard =
     let memory = m.processor.memory in
     let whole = valid.memory.whole in
     let size = valid.memory.size in
-    let ten : length (kinds_of m.units) ≡ standard_kinds = ap (λ (l : List Kind). length l) standard in
-    let units : length (kinds_of m.units) ≡ length m.units = length-map m.units _ in
+    let bus = bus-is m.units standard in
+    let many : length (kinds_of m.units) ≡ length (map saved_unit m.units) = length-map m.units _ ∙ sym (length-map m.units saved_unit) in
     record {
       cpu = cpu-is m valid time taken;
       size = length-take-le memory.size memory.words (omega (arith, whole, size)) ∙ sym
           (size-back memory.size valid.size);
       words = each-word (take memory.size memory.words)
           (All-take (λ (w : ℕ). w < 2 ^ 16) memory.size memory.words valid.memory.words);
-      all = length-map m.units saved_unit ∙ sym units ∙ ten;
-      units = units-follow 0 m.units
-          (subst (λ (l : List Kind). AreAt 0 l) (sym standard) standard-at) valid.core.registers;
+      all = ap is_unit_count (sym many) ∙ bus.count;
+      units = units-follow 0 m.units bus.at valid.core.registers;
       few = few saved_event m.events most_events (few-events m.events valid.core.sound);
-      agenda = agenda-follows [] m.events (none-before m.events) valid.core.sound
-          (listed-low (kinds_of m.units) m.events
-          (subst (λ (l : List Kind). AllByRecursion Low l) (sym standard) standard-low) valid.core.listed);
+      agenda = subst (λ (n : ℕ). Follow (IsEvent n) with_event [] (map saved_event m.events)) many
+          (agenda-follows (length (kinds_of m.units)) [] m.events (none-before m.events) valid.core.sound
+          (listed-low (length (kinds_of m.units)) (kinds_of m.units) m.events bus.low valid.core.listed));
     }

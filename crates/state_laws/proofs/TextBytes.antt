@@ -13,6 +13,7 @@ use Rattle.saved_files.specs.declared.taking.UnitPlace.{UnitPlace}
 use Rattle.saved_files.specs.Taking.{unit_at, file_places, saved_at, saved_files}
 use Rattle.state_transfer.specs.Session.{saved}
 use Rattle.saved_session.specs.SavedWatch.{saved_break, saved_expect, saved_watch}
+use Rattle.state_text.specs.Rows.{this_version}
 use Rattle.state_text.specs.Text.{text}
 use Rattle.state_text.proofs.ByteLaws.{FileIsOfBytes, ExpectIsOfBytes, StateIsOfBytes, text_bytes}
 use Rattle.saved_session.specs.Valid.{AreBytes}
@@ -65,4 +66,4 @@ of-bytes s is = record {
 }
 
 pub text-bytes : (s : Seen) → ValidSeen s → AreBytes (text (saved s))
-text-bytes s is = text_bytes (saved s) (of-bytes s is)
+text-bytes s is = text_bytes this_version (saved s) (of-bytes s is)

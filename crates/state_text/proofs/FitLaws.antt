@@ -16,11 +16,12 @@ use Rattle.byte_layouts.specs.Layout.{Follow as RowsFollow, Fits as RowsFit}
 use Rattle.byte_layouts.proofs.WriteLaws.{all_fit}
 use Rattle.state_text.specs.declared.fault.StateFault.{StateFault}
 use Rattle.state_text.specs.Gives.{Gives}
-use Rattle.state_text.specs.Rows.{word_layout, cpu_layout, register_layout, registers_layout, unit_layout, event_layout, file_layout, break_layout, expect_layout, send_layout, state_fields, state_rows}
+use Rattle.state_text.specs.Rows.{this_version, word_layout, cpu_layout, register_layout, registers_layout, unit_layout, event_layout, file_layout, ports_layout, break_layout, expect_layout, send_layout, state_fields, state_rows}
 use Rattle.state_text.specs.Reading.{reading}
 use Rattle.state_text.specs.Laws.{TextsAreRead}
 use Rattle.state_text.proofs.Lists.{all_from}
-use Rattle.state_text.proofs.ValidLaws.{below, small_name, small_actions, small_text, small_tail, small_events, small_breaks, small_expects, small_sends, ten}
+use Rattle.state_text.proofs.ValidLaws.{below, small_name, small_actions, small_text, small_tail, small_events, small_breaks, small_expects, small_sends}
+use Rattle.state_text.proofs.VersionLaws.{few_units_there}
 use Rattle.state_text.proofs.SealLaws.{reading_found, reading_again}
 use Rattle.state_text.proofs.EndLaws.{cut_short, bytes_behind_it}
 
@@ -44,7 +45,7 @@ valid_fits : (s : State) → Valid s → Fits s
 valid_fits s valid = record {
   machine = record {
     size = valid.machine.size;
-    units = ten (length s.machine.units) valid.machine.all;
+    units = few_units_there (length s.machine.units) valid.machine.all;
     registers = units_fit 0 s.machine.units valid.machine.units;
     agenda = small_events (length s.machine.agenda) valid.machine.few;
   };
@@ -72,31 +73,31 @@ texts-are-read = record { fits = valid_fits; read = reading_again; only = readin
 words_fit : (words : List ℕ) → RowsFollow (λ front. RowsFit word_layout) with_last [] words
 words_fit words = all_fit (λ front. RowsFit word_layout) (λ front w. tt) [] words
 
-pub rows_fit : (s : State) → Fits s → RowsFit state_rows (state_fields s)
-unfolding cpu_layout registers_layout
+pub rows_fit : (s : State) → Fits s → RowsFit state_rows (state_fields (this_version, s))
+unfolding cpu_layout registers_layout ports_layout
 rows_fit s fits = (
   (tt, tt),
   (
+    (((tt, (words_fit s.machine.cpu.acs, (tt, tt))), ((tt, (tt, (tt, (tt, tt)))), (tt, (tt, tt)))), words_fit s.machine.words),
     (
-      (((tt, (words_fit s.machine.cpu.acs, (tt, tt))), ((tt, (tt, (tt, (tt, tt)))), (tt, tt))), words_fit s.machine.words),
       (
-        (
-          fits.machine.units,
-          all_from (λ front. RowsFit (unit_layout front)) (λ (u : UnitPart). length u.registers < 2 ^ 8) (λ front u few. (tt, (few, all_fit (λ front. RowsFit (register_layout (kind_at u.position) front)) (λ front r. tt) [] u.registers))) [] s.machine.units fits.machine.registers,
-        ),
-        (fits.machine.agenda, all_fit (λ front. RowsFit (event_layout front)) (λ front (e : SavedEvent). (tt, (tt, tt))) [] s.machine.agenda),
+        fits.machine.units,
+        all_from (λ front. RowsFit (unit_layout front)) (λ (u : UnitPart). length u.registers < 2 ^ 8) (λ front u few. (tt, (few, all_fit (λ front. RowsFit (register_layout (kind_at u.position) front)) (λ front r. tt) [] u.registers))) [] s.machine.units fits.machine.registers,
       ),
-    ),
-    (
-      ((fits.files, all_from (λ front. RowsFit (file_layout front)) (λ (f : FilePart). length f.name < 2 ^ 16) (λ front f short. (tt, (tt, (tt, (short, (tt, tt)))))) [] s.files fits.names), tt),
       (
+        (fits.machine.agenda, all_fit (λ front. RowsFit (event_layout (length s.machine.units) front)) (λ front (e : SavedEvent). (tt, (tt, tt))) [] s.machine.agenda),
         (
-          (fits.watch.breaks, all_from (λ front. RowsFit (break_layout front)) (λ (b : BreakPart). length b.actions < 2 ^ 16) (λ front b short. (tt, (tt, short))) [] s.watch.breaks fits.watch.actions),
-          (fits.watch.expects, all_from (λ front. RowsFit expect_layout) ExpectFits (λ front e both. (tt, (both.0, both.1))) [] s.watch.expects fits.watch.texts),
-        ),
-        (
-          fits.watch.tail,
-          (fits.watch.sends, all_fit (λ front. RowsFit (send_layout front)) (λ front (x : SavedSend). (tt, tt)) [] s.watch.sends),
+          ((fits.files, all_from (λ front. RowsFit (file_layout front)) (λ (f : FilePart). length f.name < 2 ^ 16) (λ front f short. (tt, (tt, (tt, (short, (tt, tt)))))) [] s.files fits.names), (tt, (tt, tt))),
+          (
+            (
+              (fits.watch.breaks, all_from (λ front. RowsFit (break_layout front)) (λ (b : BreakPart). length b.actions < 2 ^ 16) (λ front b short. (tt, (tt, short))) [] s.watch.breaks fits.watch.actions),
+              (fits.watch.expects, all_from (λ front. RowsFit expect_layout) ExpectFits (λ front e both. (tt, (both.0, both.1))) [] s.watch.expects fits.watch.texts),
+            ),
+            (
+              fits.watch.tail,
+              (fits.watch.sends, all_fit (λ front. RowsFit (send_layout front)) (λ front (x : SavedSend). (tt, tt)) [] s.watch.sends),
+            ),
+          ),
         ),
       ),
     ),

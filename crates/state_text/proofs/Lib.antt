@@ -1,5 +1,6 @@
 pub mod NameLemmas
 pub mod Lists
+pub mod VersionLaws
 pub mod ValidLaws
 pub mod Results
 pub mod SealLaws

@@ -1,5 +1,5 @@
 -- What the rows ask of a saved session is that it is valid, in other words: there, and back.
-use Rattle.std.proofs.Common.{◌≡◌, ℕ, ◌^◌, ◌<◌, ◌≤◌, Bool, true, List, [], length, refl, ap, arith, eq-eqb}
+use Rattle.std.proofs.Common.{◌≡◌, ◌⊎◌, ℕ, ◌^◌, ◌<◌, ◌≤◌, Bool, true, false, List, [], length, refl, sym, ap, subst, arith, eq-eqb, inl, inr}
 use Rattle.std.specs.Prelude.{nat_le, nat_lt, not, ◌&&◌, ◌||◌, ◌==◌}
 use Rattle.std.proofs.lemmas.Bool.{eqb-true, and_parts, ltb-true, leb-true}
 use Rattle.unit_trait.specs.declared.kind.Kind.{Kind}
@@ -8,14 +8,17 @@ use Rattle.unit_trait.specs.Kinds.{units_of}
 use Rattle.saved_session.proofs.RegisterCounts.{few_registers}
 use Rattle.saved_session.specs.declared.saved.SavedCpu.{SavedCpu}
 use Rattle.saved_session.specs.declared.saved.SavedEvent.{SavedEvent}
+use Rattle.saved_session.specs.declared.saved.SavedPorts.{SavedPorts}
 use Rattle.saved_session.specs.declared.saved.SavedSend.{SavedSend}
-use Rattle.saved_session.specs.Parts.{UnitPart, FilePart, BreakPart, ExpectPart, MachinePart, State}
-use Rattle.saved_session.specs.Ranges.{is_flag, is_size, is_address, is_time, is_key_count, kind_at, is_position, register_count, standard_kinds, most_events, is_free, is_read_only_of, only_writes, is_name_length, longest_file_of, is_file_length, most_breaks, longest_actions, most_expects, is_text_length, longest_text, most_sends, last_send}
+use Rattle.saved_session.specs.Parts.{UnitPart, FilePart, BreakPart, ExpectPart, MachinePart, WatchPart, State}
+use Rattle.saved_session.specs.Ranges.{is_flag, is_size, is_address, is_time, is_key_count, kind_at, is_position, register_count, has_multiplexer, most_events, is_free, is_read_only_of, only_writes, is_name_length, longest_file_of, is_file_length, is_among, is_multiplexer_port, is_console_port, most_breaks, longest_actions, most_expects, is_text_length, longest_text, most_sends, last_send}
 use Rattle.saved_session.specs.Order.{next_number, with_event, behind_file, behind_break, behind_send}
-use Rattle.saved_session.specs.Valid.{AreWords, IsCpu, CanHold, IsUnit, IsEvent, IsFile, AreActions, IsBreak, IsExpect, IsSend, IsMachine, Valid}
+use Rattle.saved_session.specs.Valid.{Follow as Follows, AreWords, IsCpu, CanHold, IsUnit, IsEvent, IsFile, ArePorts, AreActions, IsBreak, IsExpect, IsSend, IsMachine, IsWatch, Valid}
 use Rattle.byte_layouts.specs.Readers.{with_last}
-use Rattle.byte_layouts.specs.Layout.{Follow, Has}
-use Rattle.state_text.specs.Rows.{word_layout, cpu_layout, register_layout, registers_layout, unit_layout, event_layout, place_after, place_behind, file_layout, actions_layout, address_after, address_behind, break_layout, expect_layout, time_after, time_behind, send_layout, machine_in, machine_rows, state_layout}
+use Rattle.byte_layouts.specs.Layout.{One, Two, Number, Listed, Follow, Has}
+use Rattle.state_text.specs.Rows.{this_version, unless, word_layout, autobit_row, cpu_layout, register_layout, registers_layout, unit_layout, is_count_in, units_layout, event_layout, few_events, place_after, place_behind, file_layout, ports_layout, actions_layout, address_after, address_behind, break_layout, expect_layout, time_after, time_behind, send_layout, tables_in, table_rows, memory_in, memory_rows, version_rows, state_fields, state_layout}
+use Rattle.state_text.specs.Text.{IsOfFirst}
+use Rattle.state_text.proofs.VersionLaws.{either_version, count_to, count_first, first_count, few_units_there}
 use Rattle.state_text.proofs.Lists.{follows_to, follows_from, all_to, all_from, numbers_step, last_is}
 
 -- ---- the processor
@@ -41,9 +44,16 @@ small_time n h = grind arith
 small_key_count : (n : ℕ) → is_key_count n ≡ true → n < 2 ^ 64
 small_key_count n h = grind arith
 
-pub cpu_to : (c : SavedCpu) → Has cpu_layout c → IsCpu c
+autobit_to : (version n : ℕ) → Has (autobit_row version) n → is_flag n ≡ true
+autobit_to version n h = by_test (version == 1) h
+  where
+    by_test : (first : Bool) → Has (unless first 0 (Number One is_flag)) n → is_flag n ≡ true
+    by_test true is = ap is_flag is
+    by_test false h = h.1
+
+pub cpu_to : (version : ℕ) (c : SavedCpu) → Has (cpu_layout version) c → IsCpu c
 unfolding cpu_layout
-cpu_to c h = record {
+cpu_to version c h = record {
   size_k = h.0.0.1;
   few = h.0.1.0.0;
   acs = words_to c.acs h.0.1.0.1;
@@ -54,17 +64,18 @@ cpu_to c h = record {
   mask = h.1.0.1.1.0.0;
   sr = h.1.0.1.1.1.0.0;
   stop_dev = h.1.0.1.1.1.1.1;
-  time = h.1.1.0.1;
-  keys_taken = h.1.1.1.1;
+  autobit = autobit_to version c.autobit h.1.1.0;
+  time = h.1.1.1.0.1;
+  keys_taken = h.1.1.1.1.1;
 }
 
-pub cpu_from : (c : SavedCpu) → IsCpu c → Has cpu_layout c
+pub cpu_from : (version : ℕ) (c : SavedCpu) → Has (autobit_row version) c.autobit → IsCpu c → Has (cpu_layout version) c
 unfolding cpu_layout
-cpu_from c is = (
+cpu_from version c autobit is = (
   ((small_size c.size_k is.size_k, is.size_k), ((is.few, words_from c.acs is.acs), ((small_flag c.carry is.carry, is.carry), (small_address c.pc is.pc, is.pc)))),
   (
     ((small_flag c.on is.on, is.on), ((small_flag c.hold is.hold, is.hold), ((is.mask, refl), ((is.sr, refl), (small_flag c.stop_dev is.stop_dev, is.stop_dev))))),
-    ((small_time c.time is.time, is.time), (small_key_count c.keys_taken is.keys_taken, is.keys_taken)),
+    (autobit, ((small_time c.time is.time, is.time), (small_key_count c.keys_taken is.keys_taken, is.keys_taken))),
   ),
 )
 
@@ -108,8 +119,8 @@ unit_from before u is = (
 
 -- ---- events
 
-small_position : (n : ℕ) → is_position n ≡ true → n < 2 ^ 8
-small_position n h = grind arith
+small_position : (count n : ℕ) → count < 2 ^ 8 → is_position count n ≡ true → n < 2 ^ 8
+small_position count n few h = let lt = ltb-true n count h in omega (arith, few, lt)
 
 few_units : (kind : Kind) → units_of kind ≤ 64
 few_units Dsk = omega arith
@@ -130,12 +141,12 @@ small_unit kind unit other h = under unit (units_of kind) (ltb-true unit (units_
     under : (n m : ℕ) → n < m → m ≤ 64 → n < 2 ^ 8
     under n m lt le = omega (arith, lt, le)
 
-event_to : (before : List SavedEvent) (e : SavedEvent) → Has (event_layout before) e → IsEvent before e
-event_to before e h = record { position = h.0.1; unit = h.1.0.1; remaining = h.1.1.0; last = h.1.1.1 }
+event_to : (count : ℕ) (before : List SavedEvent) (e : SavedEvent) → Has (event_layout count before) e → IsEvent count before e
+event_to count before e h = record { position = h.0.1; unit = h.1.0.1; remaining = h.1.1.0; last = h.1.1.1 }
 
-event_from : (before : List SavedEvent) (e : SavedEvent) → IsEvent before e → Has (event_layout before) e
-event_from before e is =
-    ((small_position e.position is.position, is.position), ((small_unit (kind_at e.position) e.unit (is_free before e.position e.unit) is.unit, is.unit), (is.remaining, is.last)))
+event_from : (count : ℕ) → count < 2 ^ 8 → (before : List SavedEvent) (e : SavedEvent) → IsEvent count before e → Has (event_layout count before) e
+event_from count few before e is =
+    ((small_position count e.position few is.position, is.position), ((small_unit (kind_at e.position) e.unit (is_free before e.position e.unit) is.unit, is.unit), (is.remaining, is.last)))
 
 -- ---- files
 
@@ -200,6 +211,54 @@ file_from before f is = (
 place_step : (front : List FilePart) (f : FilePart) → place_behind (with_last front f) ≡ behind_file (place_behind front) f
 place_step front f = ap place_after (last_is front f)
 
+-- ---- ports
+
+no_multiplexer_port : (listed : Bool) (tti1 qty : ℕ) → qty ≡ 0 → is_multiplexer_port listed tti1 qty ≡ true
+no_multiplexer_port listed tti1 qty is = ap (is_multiplexer_port listed tti1) is
+
+no_console_port : (tti1 qty console : ℕ) → console ≡ 0 → is_console_port tti1 qty console ≡ true
+no_console_port tti1 qty console is = ap (is_console_port tti1 qty) is
+
+-- what stands behind the port of the second teletype
+abbrev pub PortsBehind : Bool → Bool → SavedPorts → Type 0
+PortsBehind first listed p =
+    Has (unless first 0 (Number Two (is_multiplexer_port listed p.tti1))) p.qty × Has (unless first 0 (Number Two (is_console_port p.tti1 p.qty))) p.console
+
+ports_to : (version : ℕ) (listed : Bool) (p : SavedPorts) → Has (ports_layout version listed) p → ArePorts listed p
+unfolding ports_layout
+ports_to version listed p h = by_test (version == 1) h.0.0 h.1
+  where
+    by_test : (first : Bool) → p.tti1 < 2 ^ 16 → PortsBehind first listed p → ArePorts listed p
+    by_test true lt is = record {
+      tti1 = lt;
+      qty = no_multiplexer_port listed p.tti1 p.qty is.0;
+      console = let none = is.1 in omega (arith, none);
+      apart = no_console_port p.tti1 p.qty p.console is.1;
+    }
+    by_test false lt is = record { tti1 = lt; qty = is.0.1; console = is.1.0; apart = is.1.1 }
+
+small_first_port : (listed : Bool) (tti1 n : ℕ) → is_multiplexer_port listed tti1 n ≡ true → n < 2 ^ 16
+small_first_port listed tti1 n h = by_test (n == 0) refl
+  where
+    least : (b c : Bool) → (listed && (b && c)) ≡ true → b ≡ true
+    least b c h = (and_parts b c (and_parts listed (b && c) h).1).0
+
+    by_test : (none : Bool) → (n == 0) ≡ none → n < 2 ^ 16
+    by_test true e = let is = eqb-true n 0 e in omega (arith, is)
+    by_test false e =
+        let some : (false || (listed && (nat_le n 65472 && not (is_among n tti1)))) ≡ true = subst (λ (b : Bool). (b || (listed && (nat_le n 65472 && not (is_among n tti1)))) ≡ true) e h in
+        let le = leb-true n 65472 (least (nat_le n 65472) (not (is_among n tti1)) some) in
+        omega (arith, le)
+
+-- in the version that is written, and in the first one
+pub ports_from : (listed : Bool) (p : SavedPorts) → ArePorts listed p → Has (ports_layout this_version listed) p
+unfolding ports_layout
+ports_from listed p is = ((is.tti1, refl), ((small_first_port listed p.tti1 p.qty is.qty, is.qty), (is.console, is.apart)))
+
+pub first_ports : (listed : Bool) (p : SavedPorts) → p.tti1 < 2 ^ 16 → p.qty ≡ 0 → p.console ≡ 0 → Has (ports_layout 1 listed) p
+unfolding ports_layout
+first_ports listed p lt qty console = ((lt, refl), (qty, console))
+
 -- ---- breaks and texts
 
 pub small_actions : (n : ℕ) → nat_le n longest_actions ≡ true → n < 2 ^ 16
@@ -249,30 +308,35 @@ small_expects n h = grind arith
 pub small_sends : (n : ℕ) → nat_le n most_sends ≡ true → n < 2 ^ 16
 small_sends n h = grind arith
 
-pub ten : (n : ℕ) → n ≡ standard_kinds → n < 2 ^ 8
-ten n e = omega (arith, e)
+-- what is told in a version: all of it, or what the first version has a place for
+abbrev pub IsToldIn : ℕ → State → Type 0
+IsToldIn version s = (version ≡ this_version) ⊎ ((version ≡ 1) × IsOfFirst s)
 
-pub state_to : (s : State) → Has state_layout s → Valid s
-unfolding state_layout
-state_to s h =
-    let machine = h.1.0 in
-    let files = h.1.1.0 in
-    let tables = h.1.1.1 in
+units_to : (units : List UnitPart) → Follow (λ front. Has (unit_layout front)) with_last [] units → Follows IsUnit next_number 0 units
+units_to units h = follows_to (λ front. Has (unit_layout front)) IsUnit next_number (λ (front : List UnitPart). length front) (λ front x. numbers_step front x) unit_to [] units h
+
+valid_to : (version : ℕ) (s : State) → Has (version_rows version) (state_fields (version, s)).1 → Valid s
+valid_to version s h =
+    let units = h.1.0 in
+    let behind = h.1.1 in
+    let files = behind.1.0.0 in
+    let tables = behind.1.1 in
     record {
       machine = record {
-        cpu = cpu_to s.machine.cpu machine.0.0;
-        size = machine.0.1.0;
-        words = words_to s.machine.words machine.0.1.1;
-        all = eqb-true (length s.machine.units) standard_kinds machine.1.0.0.1;
-        units = follows_to (λ front. Has (unit_layout front)) IsUnit next_number (λ (front : List UnitPart). length front) (λ front x. numbers_step front x) unit_to [] s.machine.units machine.1.0.1;
-        few = machine.1.1.0.1;
-        agenda = follows_to (λ front. Has (event_layout front)) IsEvent with_event (λ (front : List SavedEvent). front) (λ front x. refl) event_to [] s.machine.agenda machine.1.1.1;
+        cpu = cpu_to version s.machine.cpu h.0.0;
+        size = h.0.1.0;
+        words = words_to s.machine.words h.0.1.1;
+        all = count_to version (length s.machine.units) units.0.1;
+        units = units_to s.machine.units units.1;
+        few = behind.0.0.1;
+        agenda = follows_to (λ front. Has (event_layout (length s.machine.units) front)) (IsEvent (length s.machine.units)) with_event (λ (front : List SavedEvent). front) (λ front x. refl)
+            (event_to (length s.machine.units)) [] s.machine.agenda behind.0.1;
       };
       files = record {
-        few = files.0.0.0;
-        each = follows_to (λ front. Has (file_layout front)) IsFile behind_file place_behind place_step file_to [] s.files files.0.1;
+        few = files.0.0;
+        each = follows_to (λ front. Has (file_layout front)) IsFile behind_file place_behind place_step file_to [] s.files files.1;
       };
-      port = files.1.0;
+      ports = ports_to version (has_multiplexer (length s.machine.units)) s.ports behind.1.0.1;
       watch = record {
         few_breaks = tables.0.0.0.1;
         breaks = follows_to (λ front. Has (break_layout front)) IsBreak behind_break address_behind address_step break_to [] s.watch.breaks tables.0.0.1;
@@ -285,45 +349,99 @@ state_to s h =
       };
     }
 
-pub machine_from : (m : MachinePart) → IsMachine m → Has machine_rows (machine_in m)
-machine_from m is = (
-  (cpu_from m.cpu is.cpu, (is.size, words_from m.words is.words)),
+first_to : (s : State) → Has (version_rows 1) (state_fields (1, s)).1 → IsOfFirst s
+unfolding cpu_layout ports_layout
+first_to s h = record {
+  autobit = h.0.0.1.1.0;
+  units = count_first (length s.machine.units) h.1.0.0.1;
+  qty = h.1.1.1.0.1.1.0;
+  console = h.1.1.1.0.1.1.1;
+}
+
+pub state_to : (v : ℕ × State) → Has state_layout v → Valid v.1 × IsToldIn v.0 v.1
+unfolding state_layout
+state_to v h = (
+  valid_to v.0 v.1 h.1,
+  elim (either_version v.0 h.0.1.1) [
+    | inl now ↦ inl now
+    | inr first ↦ inr (first, first_to v.1 (subst (λ (version : ℕ). Has (version_rows version) (state_fields (version, v.1)).1) first h.1))
+  ],
+)
+
+-- the units
+pub units_from : (version : ℕ) (units : List UnitPart) → is_count_in version (length units) ≡ true → Follows IsUnit next_number 0 units → Has (units_layout version) units
+units_from version units count is = (
+  (few_units_there (length units) (count_to version (length units) count), count),
+  follows_from (λ front. Has (unit_layout front)) IsUnit next_number (λ (front : List UnitPart). length front) (λ front x. numbers_step front x) unit_from [] units is,
+)
+
+-- the events
+pub events_from : (m : MachinePart) → IsMachine m → Has (Listed Two few_events (event_layout (length m.units))) m.agenda
+events_from m is = (
+  (small_events (length m.agenda) is.few, is.few),
+  follows_from (λ front. Has (event_layout (length m.units) front)) (IsEvent (length m.units)) with_event (λ (front : List SavedEvent). front) (λ front x. refl)
+      (event_from (length m.units) (few_units_there (length m.units) is.all)) [] m.agenda is.agenda,
+)
+
+-- the processor and the words
+pub memory_from : (version : ℕ) (m : MachinePart) → Has (autobit_row version) m.cpu.autobit → IsMachine m → Has (memory_rows version) (memory_in m)
+memory_from version m autobit is = (cpu_from version m.cpu autobit is.cpu, (is.size, words_from m.words is.words))
+
+tables_from : (w : WatchPart) → IsWatch w → Has table_rows (tables_in w)
+tables_from w is = (
   (
     (
-      (ten (length m.units) is.all, eq-eqb (length m.units) standard_kinds is.all),
-      follows_from (λ front. Has (unit_layout front)) IsUnit next_number (λ (front : List UnitPart). length front) (λ front x. numbers_step front x) unit_from [] m.units is.units,
+      (small_breaks (length w.breaks) is.few_breaks, is.few_breaks),
+      follows_from (λ front. Has (break_layout front)) IsBreak behind_break address_behind address_step break_from [] w.breaks is.breaks,
     ),
+    ((small_expects (length w.expects) is.few_expects, is.few_expects), all_from (λ front. Has expect_layout) IsExpect (λ front x. expect_from x) [] w.expects is.expects),
+  ),
+  (
+    ((small_tail (length w.tail) is.short_tail, is.short_tail), (is.tail, refl)),
     (
-      (small_events (length m.agenda) is.few, is.few),
-      follows_from (λ front. Has (event_layout front)) IsEvent with_event (λ (front : List SavedEvent). front) (λ front x. refl) event_from [] m.agenda is.agenda,
+      (small_sends (length w.sends) is.few_sends, is.few_sends),
+      follows_from (λ front. Has (send_layout front)) IsSend behind_send time_behind time_step send_from [] w.sends is.sends,
     ),
   ),
 )
 
-pub state_from : (s : State) → Valid s → Has state_layout s
-unfolding state_layout
-state_from s is = (
-  (tt, omega arith),
+valid_from : (version : ℕ) (s : State) → Valid s → Has (autobit_row version) s.machine.cpu.autobit → is_count_in version (length s.machine.units) ≡ true
+    → Has (ports_layout version (has_multiplexer (length s.machine.units))) s.ports → Has (version_rows version) (state_fields (version, s)).1
+valid_from version s is autobit count ports = (
+  memory_from version s.machine autobit is.machine,
   (
-    machine_from s.machine is.machine,
+    units_from version s.machine.units count is.machine.units,
     (
-      (((is.files.few, refl), follows_from (λ front. Has (file_layout front)) IsFile behind_file place_behind place_step file_from [] s.files is.files.each), (is.port, refl)),
+      events_from s.machine is.machine,
       (
-        (
-          (
-            (small_breaks (length s.watch.breaks) is.watch.few_breaks, is.watch.few_breaks),
-            follows_from (λ front. Has (break_layout front)) IsBreak behind_break address_behind address_step break_from [] s.watch.breaks is.watch.breaks,
-          ),
-          ((small_expects (length s.watch.expects) is.watch.few_expects, is.watch.few_expects), all_from (λ front. Has expect_layout) IsExpect (λ front x. expect_from x) [] s.watch.expects is.watch.expects),
-        ),
-        (
-          ((small_tail (length s.watch.tail) is.watch.short_tail, is.watch.short_tail), (is.watch.tail, refl)),
-          (
-            (small_sends (length s.watch.sends) is.watch.few_sends, is.watch.few_sends),
-            follows_from (λ front. Has (send_layout front)) IsSend behind_send time_behind time_step send_from [] s.watch.sends is.watch.sends,
-          ),
-        ),
+        (((is.files.few, refl), follows_from (λ front. Has (file_layout front)) IsFile behind_file place_behind place_step file_from [] s.files is.files.each), ports),
+        tables_from s.watch is.watch,
       ),
     ),
   ),
 )
+
+pub now_autobit : (n : ℕ) → is_flag n ≡ true → Has (autobit_row this_version) n
+now_autobit n h = (small_flag n h, h)
+
+pub now_from : (s : State) → Valid s → Has state_layout (this_version, s)
+unfolding state_layout
+now_from s is = (
+  (tt, (omega arith, refl)),
+  valid_from this_version s is (now_autobit s.machine.cpu.autobit is.machine.cpu.autobit) is.machine.all
+      (ports_from (has_multiplexer (length s.machine.units)) s.ports is.ports),
+)
+
+pub first_from : (s : State) → Valid s → IsOfFirst s → Has state_layout (1, s)
+unfolding state_layout
+first_from s is first = (
+  (tt, (omega arith, refl)),
+  valid_from 1 s is first.autobit (first_count (length s.machine.units) first.units)
+      (first_ports (has_multiplexer (length s.machine.units)) s.ports is.ports.tti1 first.qty first.console),
+)
+
+pub state_from : (v : ℕ × State) → Valid v.1 × IsToldIn v.0 v.1 → Has state_layout v
+state_from v is = elim is.1 [
+  | inl now ↦ subst (λ (version : ℕ). Has state_layout (version, v.1)) (sym now) (now_from v.1 is.0)
+  | inr first ↦ subst (λ (version : ℕ). Has state_layout (version, v.1)) (sym first.0) (first_from v.1 is.0 first.1)
+]

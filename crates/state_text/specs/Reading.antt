@@ -1,4 +1,4 @@
--- What bytes say as a state file: its rows from left to right, and the digest. The first fault is meant. The digest is
+-- What bytes say as a state file, in either version: its rows from left to right, and the digest. The first fault is meant. The digest is
 -- compared behind the last row, and a byte behind the end is looked for only where it is right.
 use Rattle.std.specs.Prelude.{ℕ, ◌==◌, List, length, take, Result, Ok, Err, if◌then◌else◌}
 use Rattle.std.specs.Str.{bytes_eq}
@@ -26,8 +26,8 @@ abbrev pub compared : State → List ℕ → List ℕ → At → Result State St
 compared s found kept at = if bytes_eq kept found then ended s at else Err (faults.BadDigest kept found)
 
 -- the digest is that of all bytes before it
-abbrev pub sealed : List ℕ → State → At → Result State StateFault
-sealed bytes s at = then_state (counted 32 at) (compared s (sha256 (take at.place bytes)))
+abbrev pub sealed : List ℕ → ℕ × State → At → Result State StateFault
+sealed bytes v at = then_state (counted 32 at) (compared v.1 (sha256 (take at.place bytes)))
 
 -- what bytes say, or their one fault
 unfoldable pub reading : List ℕ → Result State StateFault

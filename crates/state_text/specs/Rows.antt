@@ -1,14 +1,44 @@
--- The rows of a state file: each section's fields in their order, each with what it can hold.
-use Rattle.std.specs.Prelude.{ℕ, Bool, true, ◌+◌, ◌-◌, ◌*◌, ◌&&◌, ◌==◌, nat_le, List, length, slice_get, codes, Option, Some, None, refl}
+-- The rows of a state file: each section's fields in their order, each with what it can hold. There are two versions of the
+-- format: the first one has no flag of the auto-index rule, no multiplexer and no ports but that of the second teletype.
+use Rattle.std.specs.Prelude.{ℕ, Bool, true, false, ◌+◌, ◌-◌, ◌*◌, ◌&&◌, ◌||◌, ◌==◌, not, nat_le, List, length, slice_get, codes, Option, Some, None, refl}
 use Rattle.std.specs.Str.{is_utf8}
 use Rattle.unit_trait.specs.declared.kind.Kind.{Kind}
 use Rattle.saved_session.specs.declared.saved.SavedCpu.{SavedCpu}
 use Rattle.saved_session.specs.declared.saved.SavedEvent.{SavedEvent}
+use Rattle.saved_session.specs.declared.saved.SavedPorts.{SavedPorts}
 use Rattle.saved_session.specs.declared.saved.SavedSend.{SavedSend}
 use Rattle.saved_session.specs.Parts.{UnitPart, FilePart, BreakPart, ExpectPart, MachinePart, WatchPart, State}
-use Rattle.saved_session.specs.Ranges.{is_flag, is_size, is_address, is_time, is_key_count, kind_at, standard_kinds, is_position, register_count, holds_value, most_events, can_wait, comes_last, FilePlace, takes_file_at, is_next_unit, is_read_only_of, is_name_length, is_file_length, most_breaks, longest_actions, most_expects, longest_text, is_text_length, is_expect_count, most_sends, last_send, has_no_line_feed}
+use Rattle.saved_session.specs.Ranges.{is_flag, is_size, is_address, is_time, is_key_count, kind_at, standard_kinds, most_kinds, has_multiplexer, is_position, register_count, holds_value, most_events, can_wait, comes_last, FilePlace, takes_file_at, is_next_unit, is_read_only_of, is_name_length, is_file_length, is_multiplexer_port, is_console_port, most_breaks, longest_actions, most_expects, longest_text, is_text_length, is_expect_count, most_sends, last_send, has_no_line_feed}
 use Rattle.saved_session.specs.Order.{place_of}
-use Rattle.byte_layouts.specs.Layout.{Layout, One, Two, Four, Eight, Head, Version, Number, Any, Bytes, Sized, Many, Listed, Then, Made, ◌&◌}
+use Rattle.byte_layouts.specs.Readers.{is_version_to}
+use Rattle.byte_layouts.specs.Layout.{Layout, One, Two, Four, Eight, Head, Version, Given, Number, Any, Bytes, Sized, Many, Listed, Then, Made, ◌&◌}
+
+-- ---- versions
+
+-- the version that is written; it and the one before it are read
+abbrev pub this_version : ℕ
+this_version = 2
+
+abbrev pub unless : {A : Type 0} → Bool → A → Layout A → Layout A
+unless true a row = Given a
+unless false a row = row
+
+-- a row that the first version does not have: there its value is that
+abbrev pub unless_first : {A : Type 0} → ℕ → A → Layout A → Layout A
+unless_first version a row = unless (version == 1) a row
+
+-- what each begins with, and the version of the format
+abbrev pub head : List ℕ
+head = codes "NOVASTAT"
+
+abbrev pub version_in : Unit {0} × ℕ → ℕ
+version_in v = v.1
+
+abbrev pub start_fields : ℕ → Unit {0} × ℕ
+start_fields version = (tt, version)
+
+abbrev pub start_layout : Layout ℕ
+start_layout = Made version_in start_fields (λ x. refl) (λ y. refl) (Head head & Version (is_version_to this_version))
 
 -- ---- the processor
 
@@ -29,11 +59,15 @@ register_rows = Number One is_size & Many 4 (λ before. word_layout) & Number On
 abbrev pub switch_rows : Layout Switches
 switch_rows = Number One is_flag & Number One is_flag & Any Two & Any Two & Number One is_flag
 
+-- the flag of the auto-index rule
+abbrev pub autobit_row : ℕ → Layout ℕ
+autobit_row version = unless_first version 0 (Number One is_flag)
+
 abbrev pub time_rows : Layout (ℕ × ℕ)
 time_rows = Number Eight is_time & Number Eight is_key_count
 
 abbrev pub CpuFields : Type 0
-CpuFields = Registers × (Switches × (ℕ × ℕ))
+CpuFields = Registers × (Switches × (ℕ × (ℕ × ℕ)))
 
 abbrev pub registers_in : SavedCpu → Registers
 registers_in c = (c.size_k, (c.acs, (c.carry, c.pc)))
@@ -55,15 +89,16 @@ cpu_of v = record {
   mask = v.1.0.1.1.0;
   sr = v.1.0.1.1.1.0;
   stop_dev = v.1.0.1.1.1.1;
-  time = v.1.1.0;
-  keys_taken = v.1.1.1;
+  autobit = v.1.1.0;
+  time = v.1.1.1.0;
+  keys_taken = v.1.1.1.1;
 }
 
 abbrev pub cpu_fields : SavedCpu → CpuFields
-cpu_fields c = (registers_in c, (switches_in c, times_in c))
+cpu_fields c = (registers_in c, (switches_in c, (c.autobit, times_in c)))
 
-unfoldable pub cpu_layout : Layout SavedCpu
-cpu_layout = Made cpu_of cpu_fields (λ x. refl) (λ y. refl) (register_rows & switch_rows & time_rows)
+unfoldable pub cpu_layout : ℕ → Layout SavedCpu
+cpu_layout version = Made cpu_of cpu_fields (λ x. refl) (λ y. refl) (register_rows & switch_rows & autobit_row version & time_rows)
 
 abbrev pub word_count : SavedCpu → ℕ
 word_count c = 1024 * c.size_k
@@ -89,8 +124,12 @@ unit_layout before =
     Made unit_of unit_fields (λ x. refl) (λ y. refl)
     (Then (Number One (λ n. n == length before)) (λ position. registers_layout (kind_at position)))
 
-abbrev pub all_units : ℕ → Bool
-all_units n = n == standard_kinds
+-- how many units there are: in the first version the multiplexer is not among them
+abbrev pub is_count_in : ℕ → ℕ → Bool
+is_count_in version n = n == standard_kinds || (not (version == 1) && n == most_kinds)
+
+abbrev pub units_layout : ℕ → Layout (List UnitPart)
+units_layout version = Listed One (is_count_in version) unit_layout
 
 -- ---- the events
 
@@ -100,11 +139,11 @@ event_of v = record { position = v.0; unit = v.1.0; remaining = v.1.1 }
 abbrev pub event_fields : SavedEvent → ℕ × (ℕ × ℕ)
 event_fields e = (e.position, (e.unit, e.remaining))
 
--- an event behind these
-abbrev pub event_layout : List SavedEvent → Layout SavedEvent
-event_layout before =
+-- an event of one of so many units, behind these
+abbrev pub event_layout : ℕ → List SavedEvent → Layout SavedEvent
+event_layout count before =
     Made event_of event_fields (λ x. refl) (λ y. refl)
-    (Then (Number One is_position) (λ position. Number One (can_wait before position) & Number Four (comes_last before)))
+    (Then (Number One (is_position count)) (λ position. Number One (can_wait before position) & Number Four (comes_last before)))
 
 abbrev pub few_events : ℕ → Bool
 few_events n = nat_le n most_events
@@ -144,6 +183,26 @@ abbrev pub file_layout : List FilePart → Layout FilePart
 file_layout before =
     Made file_of file_fields (λ x. refl) (λ y. refl)
     (Then (Number One (takes_file_at (place_behind before))) (file_rows (place_behind before)))
+
+-- ---- the ports
+
+abbrev pub ports_of : ℕ × (ℕ × ℕ) → SavedPorts
+ports_of v = record { tti1 = v.0; qty = v.1.0; console = v.1.1 }
+
+abbrev pub ports_fields : SavedPorts → ℕ × (ℕ × ℕ)
+ports_fields p = (p.tti1, (p.qty, p.console))
+
+abbrev pub multiplexer_row : ℕ → Bool → ℕ → Layout ℕ
+multiplexer_row version listed tti1 = unless_first version 0 (Number Two (is_multiplexer_port listed tti1))
+
+abbrev pub console_row : ℕ → ℕ → ℕ → Layout ℕ
+console_row version tti1 qty = unless_first version 0 (Number Two (is_console_port tti1 qty))
+
+-- by whether the multiplexer is there
+unfoldable pub ports_layout : ℕ → Bool → Layout SavedPorts
+ports_layout version listed =
+    Made ports_of ports_fields (λ x. refl) (λ y. refl)
+    (Then word_layout (λ tti1. Then (multiplexer_row version listed tti1) (λ qty. console_row version tti1 qty)))
 
 -- ---- breaks
 
@@ -219,56 +278,64 @@ few_sends n = nat_le n most_sends
 
 -- ---- all of it
 
--- what each begins with, and the version of the format
-abbrev pub head : List ℕ
-head = codes "NOVASTAT"
-
-abbrev pub this_version : ℕ
-this_version = 1
-
 abbrev pub Memory : Type 0
 Memory = SavedCpu × List ℕ
 
 abbrev pub Tables : Type 0
 Tables = (List BreakPart × List ExpectPart) × (List ℕ × List SavedSend)
 
-abbrev pub MachineFields : Type 0
-MachineFields = Memory × (List UnitPart × List SavedEvent)
+-- what stands behind the units
+abbrev pub Behind : Type 0
+Behind = List SavedEvent × ((List FilePart × SavedPorts) × Tables)
 
+-- the version, and what stands behind it
 abbrev pub Fields : Type 0
-Fields = (Unit {0} × Unit {0}) × (MachineFields × ((List FilePart × ℕ) × Tables))
+Fields = ℕ × (Memory × (List UnitPart × Behind))
 
-abbrev pub state_of : Fields → State
-state_of v = record {
-  machine = record { cpu = v.1.0.0.0; words = v.1.0.0.1; units = v.1.0.1.0; agenda = v.1.0.1.1 };
-  files = v.1.1.0.0;
-  port = v.1.1.0.1;
-  watch = record { breaks = v.1.1.1.0.0; expects = v.1.1.1.0.1; tail = v.1.1.1.1.0; sends = v.1.1.1.1.1 };
-}
+abbrev pub state_of : Fields → ℕ × State
+state_of v = (
+  v.0,
+  record {
+    machine = record { cpu = v.1.0.0; words = v.1.0.1; units = v.1.1.0; agenda = v.1.1.1.0 };
+    files = v.1.1.1.1.0.0;
+    ports = v.1.1.1.1.0.1;
+    watch = record { breaks = v.1.1.1.1.1.0.0; expects = v.1.1.1.1.1.0.1; tail = v.1.1.1.1.1.1.0; sends = v.1.1.1.1.1.1.1 };
+  },
+)
 
 abbrev pub tables_in : WatchPart → Tables
 tables_in w = ((w.breaks, w.expects), (w.tail, w.sends))
 
-abbrev pub machine_in : MachinePart → MachineFields
-machine_in m = ((m.cpu, m.words), (m.units, m.agenda))
+abbrev pub memory_in : MachinePart → Memory
+memory_in m = (m.cpu, m.words)
 
-abbrev pub state_fields : State → Fields
-state_fields s = ((tt, tt), (machine_in s.machine, ((s.files, s.port), tables_in s.watch)))
+abbrev pub behind_in : State → Behind
+behind_in s = (s.machine.agenda, ((s.files, s.ports), tables_in s.watch))
 
-abbrev pub machine_rows : Layout MachineFields
-machine_rows =
-    Then cpu_layout (λ cpu. Many (word_count cpu) (λ before. word_layout))
-    & (Listed One all_units unit_layout & Listed Two few_events event_layout)
+abbrev pub state_fields : ℕ × State → Fields
+state_fields v = (v.0, (memory_in v.1.machine, (v.1.machine.units, behind_in v.1)))
+
+abbrev pub memory_rows : ℕ → Layout Memory
+memory_rows version = Then (cpu_layout version) (λ cpu. Many (word_count cpu) (λ before. word_layout))
 
 abbrev pub table_rows : Layout Tables
 table_rows =
     (Listed Two few_breaks break_layout & Listed One few_expects (λ before. expect_layout))
     & (tail_layout & Listed Two few_sends send_layout)
 
-abbrev pub state_rows : Layout Fields
-state_rows =
-    (Head head & Version this_version) & (machine_rows & ((Listed One any file_layout & word_layout) & table_rows))
+-- behind so many units
+abbrev pub rows_behind : ℕ → ℕ → Layout Behind
+rows_behind version count =
+    Listed Two few_events (event_layout count)
+    & ((Listed One any file_layout & ports_layout version (has_multiplexer count)) & table_rows)
 
--- all but the digest
-unfoldable pub state_layout : Layout State
+-- behind the version
+abbrev pub version_rows : ℕ → Layout (Memory × (List UnitPart × Behind))
+version_rows version = memory_rows version & Then (units_layout version) (λ units. rows_behind version (length units))
+
+abbrev pub state_rows : Layout Fields
+state_rows = Then start_layout version_rows
+
+-- all but the digest: the version, and what is saved
+unfoldable pub state_layout : Layout (ℕ × State)
 state_layout = Made state_of state_fields (λ x. refl) (λ y. refl) state_rows

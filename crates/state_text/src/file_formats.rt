@@ -11,7 +11,7 @@ ghost use Rattle.byte_layouts.specs.Layout.{One, Two, Sized, Bytes, reading};
 ghost use Rattle.state_text.specs.Rows.{any, place_behind, file_layout};
 
 use crate::watch_formats::put_long;
-use byte_layouts::{Cursor, FieldFault, Format, ListFormat, Writes, put_u8, put_u64};
+use byte_layouts::{Cursor, FieldFault, Format, Known, ListFormat, Writes, put_u8, put_u64};
 use saved_session::{SavedFile, kind_at, longest_file_of, only_writes};
 use std::alloc::{AllocError, Global};
 use std::str::from_utf8;
@@ -163,11 +163,12 @@ impl Format for FileFormat {
 
     ghost view = { file_in };
 
-    ghost layout = { file_layout };
+    ghost layout = { λ known before. file_layout before };
 
     fn read(
         alloc: Global,
         cursor: &mut Cursor,
+        _known: Known,
         before: &[SavedFile],
     ) -> Result<SavedFile, FieldFault> {
         let least = place_behind(before);
@@ -190,7 +191,7 @@ impl Format for FileFormat {
 }
 
 impl Writes for FileFormat {
-    fn write(file: &SavedFile, out: &mut Vec<u8>) -> Result<(), AllocError> {
+    fn write(file: &SavedFile, _known: Known, out: &mut Vec<u8>) -> Result<(), AllocError> {
         put_u8(out, file.position)?;
         put_u8(out, file.unit)?;
         put_u8(out, file.read_only)?;
@@ -199,17 +200,17 @@ impl Writes for FileFormat {
         out.extend_from_slice(&file.digest)
     }
 
-    ghost same_text = { λ before x. refl };
+    ghost same_text = { λ known before x. refl };
 
-    ghost same_fits = { λ before x fits. fits };
+    ghost same_fits = { λ known before x fits. fits };
 }
 
 impl ListFormat for FileFormat {
     ghost size = { One };
 
-    ghost few = { any };
+    ghost few = { λ known. any };
 
-    fn count(cursor: &mut Cursor) -> Result<u32, FieldFault> {
+    fn count(cursor: &mut Cursor, _known: Known) -> Result<u32, FieldFault> {
         Ok(u32::from(cursor.u8()?))
     }
 

@@ -1,10 +1,12 @@
 //! A saved session as the bytes of a state file: written, and read with the one fault of bytes that are none.
 #![tactic(auto)]
 
+mod behind_units;
 pub mod fault;
 mod file_formats;
 pub mod laws;
 mod machine_formats;
+mod port_formats;
 pub mod reading;
 mod state_reader;
 mod watch_formats;

@@ -8,54 +8,50 @@ ghost use Rattle.saved_session.specs.declared.saved.SavedEvent.{SavedEvent};
 ghost use Rattle.saved_session.specs.Parts.{UnitPart, unit_in};
 ghost use Rattle.saved_session.specs.Ranges.{is_size, is_position, can_wait, comes_last, is_event_of, is_later, kind_at, register_count, holds_value};
 ghost use Rattle.byte_layouts.specs.Readers.{Reads, number, tested, chain, with_last};
-ghost use Rattle.byte_layouts.specs.Layout.{One, Two, Four, Any, Many, Head, Version, text, reading, Fits};
-ghost use Rattle.state_text.specs.Rows.{head, this_version, word_layout, word_count, register_rows, registers_in, switch_rows, switches_in, cpu_layout, register_layout, registers_layout, unit_layout, all_units, event_layout, few_events};
+ghost use Rattle.byte_layouts.specs.Layout.{One, Two, Four, Any, Many, text, reading, Fits};
+ghost use Rattle.state_text.specs.Rows.{this_version, start_layout, word_layout, word_count, register_rows, registers_in, switch_rows, switches_in, autobit_row, cpu_layout, register_layout, registers_layout, unit_layout, is_count_in, event_layout, few_events};
 
 use byte_layouts::{
-    Cursor, FieldFault, Format, ListFormat, Measure, Plain, Writes, put_u8, put_u16, put_u32,
-    put_u64, write_plain,
+    Cursor, FieldFault, Format, Known, ListFormat, Measure, Plain, Tells, Writes, put_u8, put_u16,
+    put_u32, put_u64, write_plain,
 };
 use saved_session::{SavedCpu, SavedEvent, SavedUnit, holds_value, kind_at, register_count};
 use std::alloc::{AllocError, Global};
 use unit_trait::{Kind, units_of};
 
-/// How many units a state has: one of each kind of a standard machine.
+/// How many units a session has whose machine has no multiplexer.
 const UNITS: u8 = 10;
 
 /// How many events wait at most.
 const MOST_EVENTS: u16 = 81;
 
-/// The first bytes of every state file.
-pub struct HeadFormat;
+/// The version that is written, and the newest that is read.
+pub const VERSION: u16 = 2;
 
-impl Format for HeadFormat {
-    type Item = ();
+/// The first bytes of every state file, and its version.
+pub struct StartFormat;
 
-    ghost Value = { Unit {0} };
+impl Tells for StartFormat {
+    type Item = u16;
 
-    ghost view = { λ u. u };
+    ghost Value = { ℕ };
 
-    ghost layout = { λ before. Head head };
+    ghost view = { λ n. n };
 
-    fn read(_alloc: Global, cursor: &mut Cursor, _before: &[()]) -> Result<(), FieldFault> {
-        cursor.head(b"NOVASTAT")
+    ghost layout = { λ known. start_layout };
+
+    ghost tells = { λ known version. record { version = version; count = 0 } };
+
+    fn read(_alloc: Global, cursor: &mut Cursor, _known: Known) -> Result<u16, FieldFault> {
+        cursor.head(b"NOVASTAT")?;
+        cursor.version_to(VERSION)
     }
-}
 
-/// The version of the format.
-pub struct VersionFormat;
-
-impl Format for VersionFormat {
-    type Item = ();
-
-    ghost Value = { Unit {0} };
-
-    ghost view = { λ u. u };
-
-    ghost layout = { λ before. Version this_version };
-
-    fn read(_alloc: Global, cursor: &mut Cursor, _before: &[()]) -> Result<(), FieldFault> {
-        cursor.version(1)
+    fn tell(_known: Known, version: &u16) -> Known {
+        Known {
+            version: *version,
+            count: 0,
+        }
     }
 }
 
@@ -69,25 +65,30 @@ impl Format for WordFormat {
 
     ghost view = { λ n. n };
 
-    ghost layout = { λ before. word_layout };
+    ghost layout = { λ known before. word_layout };
 
-    fn read(_alloc: Global, cursor: &mut Cursor, _before: &[u16]) -> Result<u16, FieldFault> {
+    fn read(
+        _alloc: Global,
+        cursor: &mut Cursor,
+        _known: Known,
+        _before: &[u16],
+    ) -> Result<u16, FieldFault> {
         cursor.u16()
     }
 }
 
 impl Writes for WordFormat {
-    fn write(word: &u16, out: &mut Vec<u8>) -> Result<(), AllocError> {
+    fn write(word: &u16, _known: Known, out: &mut Vec<u8>) -> Result<(), AllocError> {
         put_u16(out, *word)
     }
 
-    ghost same_text = { λ before x. refl };
+    ghost same_text = { λ known before x. refl };
 
-    ghost same_fits = { λ before x fits. fits };
+    ghost same_fits = { λ known before x fits. fits };
 }
 
 impl Plain for WordFormat {
-    ghost always_fits = { λ before x. tt };
+    ghost always_fits = { λ known before x. tt };
 }
 
 /// The processor, which tells how many words stand behind it.
@@ -112,6 +113,17 @@ fn accumulators(cursor: &mut Cursor) -> Result<[u16; 4], FieldFault>
     Ok([cursor.u16()?, cursor.u16()?, cursor.u16()?, cursor.u16()?])
 }
 
+// The flag of the auto-index rule.
+#[tactic(auto, using(crate::proofs::VersionLaws::in_first, crate::proofs::VersionLaws::in_later))]
+fn autobit(cursor: &mut Cursor, version: u16) -> Result<u8, FieldFault>
+    ensures { Reads (λ x. x) result cursor.new (reading (autobit_row version) cursor.old) }
+{
+    if version == 1 {
+        return Ok(0);
+    }
+    cursor.u8_to(1)
+}
+
 impl Measure for CpuFormat {
     type Item = SavedCpu;
 
@@ -119,12 +131,12 @@ impl Measure for CpuFormat {
 
     ghost view = { λ c. c };
 
-    ghost layout = { cpu_layout };
+    ghost layout = { λ known. cpu_layout known.version };
 
     ghost count = { word_count };
 
     #[tactic(auto, unfolding(crate::specs::Rows::cpu_layout))]
-    fn read(_alloc: Global, cursor: &mut Cursor) -> Result<SavedCpu, FieldFault> {
+    fn read(_alloc: Global, cursor: &mut Cursor, known: Known) -> Result<SavedCpu, FieldFault> {
         Ok(SavedCpu {
             size_k: size(cursor)?,
             acs: accumulators(cursor)?,
@@ -135,6 +147,7 @@ impl Measure for CpuFormat {
             mask: cursor.u16()?,
             sr: cursor.u16()?,
             stop_dev: cursor.u8_to(1)?,
+            autobit: autobit(cursor, known.version)?,
             time: cursor.u64_to(1 << 60)?,
             keys_taken: cursor.u64_to(65536)?,
         })
@@ -150,7 +163,7 @@ fn write_registers(cpu: &SavedCpu, out: &mut Vec<u8>) -> Result<(), AllocError>
     ensures { OnOk result (out.new.items ≡ out.old.items ++ text register_rows (registers_in cpu.now)) }
 {
     put_u8(out, cpu.size_k)?;
-    write_plain::<WordFormat>(&cpu.acs, out)?;
+    write_plain::<WordFormat>(&cpu.acs, Known::nothing(), out)?;
     put_u8(out, cpu.carry)?;
     put_u16(out, cpu.pc)
 }
@@ -169,10 +182,11 @@ fn write_switches(cpu: &SavedCpu, out: &mut Vec<u8>) -> Result<(), AllocError>
 /// Writes the processor.
 #[tactic(auto, unfolding(crate::specs::Rows::cpu_layout))]
 pub fn write_cpu(cpu: &SavedCpu, out: &mut Vec<u8>) -> Result<(), AllocError>
-    ensures { OnOk result (out.new.items ≡ out.old.items ++ text cpu_layout cpu.now) }
+    ensures { OnOk result (out.new.items ≡ out.old.items ++ text (cpu_layout this_version) cpu.now) }
 {
     write_registers(cpu, out)?;
     write_switches(cpu, out)?;
+    put_u8(out, cpu.autobit)?;
     put_u64(out, cpu.time)?;
     put_u64(out, cpu.keys_taken)
 }
@@ -236,11 +250,12 @@ impl Format for UnitFormat {
 
     ghost view = { unit_in };
 
-    ghost layout = { unit_layout };
+    ghost layout = { λ known before. unit_layout before };
 
     fn read(
         alloc: Global,
         cursor: &mut Cursor,
+        _known: Known,
         before: &[SavedUnit],
     ) -> Result<SavedUnit, FieldFault> {
         let position = exactly(cursor, before.len())?;
@@ -261,47 +276,64 @@ impl Format for RegisterFormat {
 
     ghost view = { λ n. n };
 
-    ghost layout = { λ before. Any Four };
+    ghost layout = { λ known before. Any Four };
 
-    fn read(_alloc: Global, cursor: &mut Cursor, _before: &[u32]) -> Result<u32, FieldFault> {
+    fn read(
+        _alloc: Global,
+        cursor: &mut Cursor,
+        _known: Known,
+        _before: &[u32],
+    ) -> Result<u32, FieldFault> {
         cursor.u32()
     }
 }
 
 impl Writes for RegisterFormat {
-    fn write(register: &u32, out: &mut Vec<u8>) -> Result<(), AllocError> {
+    fn write(register: &u32, _known: Known, out: &mut Vec<u8>) -> Result<(), AllocError> {
         put_u32(out, *register)
     }
 
-    ghost same_text = { λ before x. refl };
+    ghost same_text = { λ known before x. refl };
 
-    ghost same_fits = { λ before x fits. fits };
+    ghost same_fits = { λ known before x fits. fits };
 }
 
 impl Plain for RegisterFormat {
-    ghost always_fits = { λ before x. tt };
+    ghost always_fits = { λ known before x. tt };
 }
 
 impl Writes for UnitFormat {
     #[tactic(auto, unfolding(crate::specs::Rows::registers_layout))]
-    fn write(unit: &SavedUnit, out: &mut Vec<u8>) -> Result<(), AllocError> {
+    fn write(unit: &SavedUnit, _known: Known, out: &mut Vec<u8>) -> Result<(), AllocError> {
         put_u8(out, unit.position)?;
         put_u8(out, unit.registers.len() as u8)?;
-        write_plain::<RegisterFormat>(&unit.registers, out)
+        write_plain::<RegisterFormat>(&unit.registers, Known::nothing(), out)
     }
 
-    ghost same_text = { λ before x. refl };
+    ghost same_text = { λ known before x. refl };
 
-    ghost same_fits = { λ before x fits. fits };
+    ghost same_fits = { λ known before x fits. fits };
+}
+
+// How many units there are.
+fn unit_count(cursor: &mut Cursor, version: u16) -> Result<u8, FieldFault>
+    ensures { Reads (λ x. x) result cursor.new (tested (is_count_in version) (number w8) cursor.old) }
+{
+    let place = cursor.place();
+    let count = cursor.u8()?;
+    if count != UNITS && (version == 1 || count != UNITS + 1) {
+        return Err(FieldFault::BadField(place));
+    }
+    Ok(count)
 }
 
 impl ListFormat for UnitFormat {
     ghost size = { One };
 
-    ghost few = { all_units };
+    ghost few = { λ known. is_count_in known.version };
 
-    fn count(cursor: &mut Cursor) -> Result<u32, FieldFault> {
-        Ok(u32::from(exactly(cursor, usize::from(UNITS))?))
+    fn count(cursor: &mut Cursor, known: Known) -> Result<u32, FieldFault> {
+        Ok(u32::from(unit_count(cursor, known.version)?))
     }
 
     fn write_count(count: usize, out: &mut Vec<u8>) -> Result<(), AllocError> {
@@ -312,13 +344,13 @@ impl ListFormat for UnitFormat {
 /// An event.
 pub struct EventFormat;
 
-// The position of a unit that the machine has.
-fn position(cursor: &mut Cursor) -> Result<u8, FieldFault>
-    ensures { Reads (λ x. x) result cursor.new (tested is_position (number w8) cursor.old) }
+// The position of one of so many units.
+fn position(cursor: &mut Cursor, count: usize) -> Result<u8, FieldFault>
+    ensures { Reads (λ x. x) result cursor.new (tested (is_position count) (number w8) cursor.old) }
 {
     let place = cursor.place();
     let position = cursor.u8()?;
-    if position >= UNITS {
+    if usize::from(position) >= count {
         return Err(FieldFault::BadField(place));
     }
     Ok(position)
@@ -385,14 +417,15 @@ impl Format for EventFormat {
 
     ghost view = { λ e. e };
 
-    ghost layout = { event_layout };
+    ghost layout = { λ known before. event_layout known.count before };
 
     fn read(
         _alloc: Global,
         cursor: &mut Cursor,
+        known: Known,
         before: &[SavedEvent],
     ) -> Result<SavedEvent, FieldFault> {
-        let position = position(cursor)?;
+        let position = position(cursor, known.count)?;
         let unit = event_unit(cursor, before, position)?;
         let remaining = remaining(cursor, before)?;
         Ok(SavedEvent {
@@ -404,23 +437,23 @@ impl Format for EventFormat {
 }
 
 impl Writes for EventFormat {
-    fn write(event: &SavedEvent, out: &mut Vec<u8>) -> Result<(), AllocError> {
+    fn write(event: &SavedEvent, _known: Known, out: &mut Vec<u8>) -> Result<(), AllocError> {
         put_u8(out, event.position)?;
         put_u8(out, event.unit)?;
         put_u32(out, event.remaining)
     }
 
-    ghost same_text = { λ before x. refl };
+    ghost same_text = { λ known before x. refl };
 
-    ghost same_fits = { λ before x fits. fits };
+    ghost same_fits = { λ known before x fits. fits };
 }
 
 impl ListFormat for EventFormat {
     ghost size = { Two };
 
-    ghost few = { few_events };
+    ghost few = { λ known. few_events };
 
-    fn count(cursor: &mut Cursor) -> Result<u32, FieldFault> {
+    fn count(cursor: &mut Cursor, _known: Known) -> Result<u32, FieldFault> {
         Ok(u32::from(cursor.u16_to(MOST_EVENTS)?))
     }
 

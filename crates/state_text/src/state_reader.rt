@@ -8,56 +8,33 @@ ghost use Rattle.sha2.specs.Sha256.{sha256};
 ghost use Rattle.byte_layouts.specs.Readers.{counted};
 ghost use Rattle.byte_layouts.specs.Held.{at_in};
 ghost use Rattle.state_text.specs.Rows.{state_of};
-ghost use Rattle.state_text.specs.Text.{text};
+ghost use Rattle.state_text.specs.Text.{IsTextOf};
 ghost use Rattle.state_text.specs.Reading.{then_state, compared, reading};
 ghost use Rattle.state_text.specs.Gives.{Gives};
 ghost use Rattle.state_text.specs.Pieces.{IsFed, HasFailed};
 
+use crate::behind_units::{BehindUnits, FoundBehind};
 use crate::fault::StateFault;
-use crate::file_formats::FileFormat;
-use crate::machine_formats::{
-    CpuFormat, EventFormat, HeadFormat, UnitFormat, VersionFormat, WordFormat,
-};
-use crate::watch_formats::{BreakFormat, ExpectFormat, SendFormat, TailFormat};
-use byte_layouts::{Both, Elements, Measured, One, Part, Pending, Reading, Three};
-use saved_session::{
-    Saved, SavedBreak, SavedCpu, SavedEvent, SavedExpect, SavedFile, SavedSend, SavedUnit,
-};
+use crate::machine_formats::{CpuFormat, StartFormat, UnitFormat, WordFormat};
+use byte_layouts::{Both, ListOf, Measured, Part, Pending, Reading, Telling};
+use saved_session::{Saved, SavedCpu, SavedUnit};
 use std::alloc::{AllocError, Global};
 
 /// How many bytes are kept behind the last row: the digest, and one that stands behind the end.
 const KEPT: usize = 33;
 
-type Start = Both<One<HeadFormat>, One<VersionFormat>>;
-
-type Machine = Three<Measured<CpuFormat, WordFormat>, Elements<UnitFormat>, Elements<EventFormat>>;
-
-type Tables = Both<
-    Both<Elements<BreakFormat>, Elements<ExpectFormat>>,
-    Both<One<TailFormat>, Elements<SendFormat>>,
->;
+/// What stands behind the version, which is told to all of it.
+type Versioned = Both<Measured<CpuFormat, WordFormat>, Telling<ListOf<UnitFormat>, BehindUnits>>;
 
 /// The parts of a state file, in their order.
-pub type Parts = Three<Start, Machine, Both<Both<Elements<FileFormat>, One<WordFormat>>, Tables>>;
-
-/// What was read of the machine.
-type FoundMachine = ((SavedCpu, Vec<u16>), (Vec<SavedUnit>, Vec<SavedEvent>));
-
-/// What was read of what a run watches.
-type FoundTables = (
-    (Vec<SavedBreak>, Vec<SavedExpect>),
-    (Vec<u8>, Vec<SavedSend>),
-);
+pub type Parts = Telling<StartFormat, Versioned>;
 
 /// What was read of all parts.
-type Found = (
-    ((), ()),
-    (FoundMachine, ((Vec<SavedFile>, u16), FoundTables)),
-);
+type Found = (u16, ((SavedCpu, Vec<u16>), (Vec<SavedUnit>, FoundBehind)));
 
 /// Reads a state file that comes in pieces. It keeps what the file says so far, and of the file's bytes only those that
-/// came and are not read yet: at most the last piece, of 4096 bytes, and 582 bytes before it, since the longest record,
-/// a text that is waited for with its actions, has 583.
+/// came and are not read yet: at most the last piece, of 4096 bytes, and 794 bytes before it, since the longest record,
+/// the units with their registers, has 795.
 #[derive(Drop)]
 pub struct StateReader {
     reading: Reading<Parts>,
@@ -118,12 +95,12 @@ impl StateReader {
 
     /// What all pieces say, one behind the other, as `read_state` has it.
     pub fn finish(self) -> Result<Saved, StateFault>
-        // What is read is valid, and the bytes are its text.
+        // What is read is valid, and the bytes are its text, in this version or in the first one.
         ensures found { (fed : List ℕ) → IsFed self fed
-            → IfOk result (λ s. Valid (state_in s) × (fed ≡ text (state_in s))) }
-        // The text of what is valid is read, unless memory runs out.
+            → IfOk result (λ s. Valid (state_in s) × IsTextOf (state_in s) fed) }
+        // The texts of what is valid are read, unless memory runs out.
         ensures only { (fed : List ℕ) → IsFed self fed
-            → (s : State) → Valid s → fed ≡ text s → Gives state_in result (Ok s) }
+            → (s : State) → Valid s → IsTextOf s fed → Gives state_in result (Ok s) }
         // What is read can be written again.
         ensures fits { (fed : List ℕ) → IsFed self fed → IfOk result (λ s. Fits (state_in s)) }
         // Other bytes have their one fault.
@@ -140,11 +117,11 @@ impl StateReader {
 
 // What was read, as a saved session.
 fn joined(parts: Found) -> Saved
-    ensures { state_in result ≡ state_of (⟦<Parts as Part>⟧.view parts) }
+    ensures { state_in result ≡ (state_of (⟦<Parts as Part>⟧.view parts)).1 }
 {
-    let (_, (machine, (files, tables))) = parts;
-    let ((cpu, words), (units, agenda)) = machine;
-    let (attachments, port) = files;
+    let (_version, ((cpu, words), (units, behind))) = parts;
+    let (agenda, (files, tables)) = behind;
+    let (attachments, ports) = files;
     let ((breaks, expects), (tail, sends)) = tables;
     Saved {
         cpu,
@@ -152,7 +129,7 @@ fn joined(parts: Found) -> Saved
         units,
         agenda,
         attachments,
-        port,
+        ports,
         breaks,
         expects,
         tail,

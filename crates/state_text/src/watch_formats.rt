@@ -9,7 +9,7 @@ ghost use Rattle.byte_layouts.specs.Layout.{One, Two, Sized, number_text, text, 
 ghost use Rattle.state_text.specs.Rows.{any, actions_layout, break_layout, few_breaks, address_behind, expect_layout, few_expects, tail_layout, send_layout, few_sends, time_behind};
 
 use byte_layouts::{
-    Cursor, FieldFault, Format, ListFormat, Writes, put_u8, put_u16, put_u32, put_u64,
+    Cursor, FieldFault, Format, Known, ListFormat, Writes, put_u8, put_u16, put_u32, put_u64,
 };
 use saved_session::{SavedBreak, SavedExpect, SavedSend};
 use std::alloc::{AllocError, Global};
@@ -99,11 +99,12 @@ impl Format for BreakFormat {
 
     ghost view = { break_in };
 
-    ghost layout = { break_layout };
+    ghost layout = { λ known before. break_layout before };
 
     fn read(
         alloc: Global,
         cursor: &mut Cursor,
+        _known: Known,
         before: &[SavedBreak],
     ) -> Result<SavedBreak, FieldFault> {
         let address = address(cursor, address_behind(before))?;
@@ -118,23 +119,23 @@ impl Format for BreakFormat {
 }
 
 impl Writes for BreakFormat {
-    fn write(b: &SavedBreak, out: &mut Vec<u8>) -> Result<(), AllocError> {
+    fn write(b: &SavedBreak, _known: Known, out: &mut Vec<u8>) -> Result<(), AllocError> {
         put_u16(out, b.address)?;
         put_u32(out, b.count)?;
         put_long(out, &b.actions)
     }
 
-    ghost same_text = { λ before x. refl };
+    ghost same_text = { λ known before x. refl };
 
-    ghost same_fits = { λ before x fits. fits };
+    ghost same_fits = { λ known before x fits. fits };
 }
 
 impl ListFormat for BreakFormat {
     ghost size = { Two };
 
-    ghost few = { few_breaks };
+    ghost few = { λ known. few_breaks };
 
-    fn count(cursor: &mut Cursor) -> Result<u32, FieldFault> {
+    fn count(cursor: &mut Cursor, _known: Known) -> Result<u32, FieldFault> {
         Ok(u32::from(cursor.u16_to(MOST_BREAKS)?))
     }
 
@@ -177,11 +178,12 @@ impl Format for ExpectFormat {
 
     ghost view = { expect_in };
 
-    ghost layout = { λ before. expect_layout };
+    ghost layout = { λ known before. expect_layout };
 
     fn read(
         alloc: Global,
         cursor: &mut Cursor,
+        _known: Known,
         _before: &[SavedExpect],
     ) -> Result<SavedExpect, FieldFault> {
         let count = expect_count(cursor)?;
@@ -196,23 +198,23 @@ impl Format for ExpectFormat {
 }
 
 impl Writes for ExpectFormat {
-    fn write(expect: &SavedExpect, out: &mut Vec<u8>) -> Result<(), AllocError> {
+    fn write(expect: &SavedExpect, _known: Known, out: &mut Vec<u8>) -> Result<(), AllocError> {
         put_u32(out, expect.count)?;
         put_short(out, &expect.text)?;
         put_long(out, &expect.actions)
     }
 
-    ghost same_text = { λ before x. refl };
+    ghost same_text = { λ known before x. refl };
 
-    ghost same_fits = { λ before x fits. fits };
+    ghost same_fits = { λ known before x fits. fits };
 }
 
 impl ListFormat for ExpectFormat {
     ghost size = { One };
 
-    ghost few = { few_expects };
+    ghost few = { λ known. few_expects };
 
-    fn count(cursor: &mut Cursor) -> Result<u32, FieldFault> {
+    fn count(cursor: &mut Cursor, _known: Known) -> Result<u32, FieldFault> {
         Ok(u32::from(cursor.u8_to(MOST_EXPECTS)?))
     }
 
@@ -231,11 +233,12 @@ impl Format for TailFormat {
 
     ghost view = { λ v. v.items };
 
-    ghost layout = { λ before. tail_layout };
+    ghost layout = { λ known before. tail_layout };
 
     fn read(
         alloc: Global,
         cursor: &mut Cursor,
+        _known: Known,
         _before: &[Vec<u8>],
     ) -> Result<Vec<u8>, FieldFault> {
         let length = cursor.u8_to(LONGEST_TEXT)?;
@@ -245,13 +248,13 @@ impl Format for TailFormat {
 }
 
 impl Writes for TailFormat {
-    fn write(tail: &Vec<u8>, out: &mut Vec<u8>) -> Result<(), AllocError> {
+    fn write(tail: &Vec<u8>, _known: Known, out: &mut Vec<u8>) -> Result<(), AllocError> {
         put_short(out, tail)
     }
 
-    ghost same_text = { λ before x. refl };
+    ghost same_text = { λ known before x. refl };
 
-    ghost same_fits = { λ before x fits. fits };
+    ghost same_fits = { λ known before x fits. fits };
 }
 
 /// A byte that is sent.
@@ -274,11 +277,12 @@ impl Format for SendFormat {
 
     ghost view = { λ s. s };
 
-    ghost layout = { send_layout };
+    ghost layout = { λ known before. send_layout before };
 
     fn read(
         _alloc: Global,
         cursor: &mut Cursor,
+        _known: Known,
         before: &[SavedSend],
     ) -> Result<SavedSend, FieldFault> {
         Ok(SavedSend {
@@ -289,22 +293,22 @@ impl Format for SendFormat {
 }
 
 impl Writes for SendFormat {
-    fn write(send: &SavedSend, out: &mut Vec<u8>) -> Result<(), AllocError> {
+    fn write(send: &SavedSend, _known: Known, out: &mut Vec<u8>) -> Result<(), AllocError> {
         put_u64(out, send.time)?;
         put_u8(out, send.byte)
     }
 
-    ghost same_text = { λ before x. refl };
+    ghost same_text = { λ known before x. refl };
 
-    ghost same_fits = { λ before x fits. fits };
+    ghost same_fits = { λ known before x fits. fits };
 }
 
 impl ListFormat for SendFormat {
     ghost size = { Two };
 
-    ghost few = { few_sends };
+    ghost few = { λ known. few_sends };
 
-    fn count(cursor: &mut Cursor) -> Result<u32, FieldFault> {
+    fn count(cursor: &mut Cursor, _known: Known) -> Result<u32, FieldFault> {
         Ok(u32::from(cursor.u16_to(MOST_SENDS)?))
     }
 

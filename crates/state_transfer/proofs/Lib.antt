@@ -1,4 +1,5 @@
 pub mod PortLemmas
+pub mod RowLemmas
 pub mod TakingLemmas
 pub mod TakenFits
 pub mod PutBackMachineLemmas

@@ -1,25 +1,32 @@
 -- The units and the events of a saved machine as they are put back.
-use Rattle.std.proofs.Common.{◌≡◌, ℕ, zero, suc, ◌+◌, ◌≤◌, eqb, Bool, true, false, List, [], ◌∷◌, ◌++◌, length, map, take, Option, Some, inl, inr, refl, sym, ap, ◌∙◌, arith}
-use Rattle.std.specs.Prelude.{nat_le, nat_lt, slice_get, option_map}
+use Rattle.std.proofs.Common.{◌≡◌, ◌⊎◌, ℕ, zero, suc, ◌+◌, ◌≤◌, ◌<◌, ◌&&◌, ◌||◌, ◌==◌, eqb, not, if◌then◌else◌, append-nil, subst, Bool, true, false, List, [], ◌∷◌, ◌++◌, length, map, take, Option, Some, inl, inr, refl, sym, ap, ◌∙◌, arith}
+use Rattle.std.specs.Prelude.{nat_le, nat_lt, slice_get, slice_set, replicate, option_map}
 use Rattle.std.specs.List.{AllByRecursion, IsDistinct, list_any}
 use Rattle.std.proofs.lemmas.Bool.{and_from, and_parts, or_from, or_parts, not-true, false_from_ne_true, both_ways, leb-true, ltb-true, ltb-false, eq-eqb, eqb-true}
+use Rattle.std.proofs.lemmas.List.{length-map, length-append}
 use Rattle.unit_trait.specs.declared.kind.Kind.{Kind}
+use Rattle.unit_trait.specs.declared.kind.Kind.TheVariants.{Qty}
 use Rattle.unit_trait.specs.declared.kind.UnitName.{UnitName}
 use Rattle.unit_trait.specs.Kinds.{all_kinds, units_of, code_of, same_unit}
+use Rattle.unit_trait.specs.Multiplexer.{line_numbers}
 use Rattle.unit_trait.specs.Registers.{Register, registers, register_at}
 use Rattle.unit_trait.specs.Row.{InRange}
+use Rattle.unit_trait.specs.Calls.{UnitState}
 use Rattle.unit_trait.proofs.Codes.{same-code}
 use Rattle.unit_list.specs.Bus.{AllFit, kinds_of}
 use Rattle.event_queue.specs.EventList.{Event, waiting, Sound}
 use Rattle.unit_list.specs.BusOrder.{place_of}
+use Rattle.unit_list.proofs.LineRows.{multiplexer-begins}
 use Rattle.nova_machine.specs.Core.{IsAmong}
+use Rattle.nova_machine.specs.Machine.{has_multiplexer}
 use Rattle.saved_session.specs.declared.saved.SavedEvent.{SavedEvent}
 use Rattle.saved_session.specs.Parts.{UnitPart, MachinePart}
-use Rattle.saved_session.specs.Ranges.{kind_at, standard_kinds, is_position, register_count, within_limits, holds_value, is_event_of, is_free, is_later}
+use Rattle.saved_session.specs.Ranges.{kind_at, standard_kinds, most_kinds, is_unit_count, is_position, register_count, within_limits, holds_value, is_event_of, is_free, is_later}
 use Rattle.saved_session.specs.Valid.{Follow, CanHold, IsUnit, IsEvent, IsMachine}
 use Rattle.saved_session.specs.Order.{next_number, with_event}
-use Rattle.state_transfer.specs.PutBack.{unit_from, event_from}
+use Rattle.state_transfer.specs.PutBack.{unit_from, lack_multiplexer, first_multiplexer, missing_from, units_from, event_from}
 use Rattle.state_transfer.specs.SavedValid.{AreStandard}
+use Rattle.state_transfer.proofs.TakingLemmas.{ten-lack, eleven-have, ten-many, eleven-many}
 
 -- ---- the units
 
@@ -76,12 +83,134 @@ ten-kinds : kinds_from 0 standard_kinds ≡ take standard_kinds all_kinds
 unfolding kinds_from kind_at
 ten-kinds = refl
 
-pub ten-standard : (us : List UnitPart) → length us ≡ standard_kinds → Follow IsUnit next_number 0 us
-    → AreStandard (map unit_from us)
-ten-standard us all are = kinds-are 0 standard_kinds us all are ∙ ten-kinds
+eleven-kinds : kinds_from 0 most_kinds ≡ all_kinds
+unfolding kinds_from kind_at
+eleven-kinds = refl
 
-pub units-standard : (m : MachinePart) → IsMachine m → AreStandard (map unit_from m.units)
-units-standard m is = ten-standard m.units is.all is.units
+pub are-ten : (us : List UnitPart) → length us ≡ standard_kinds → Follow IsUnit next_number 0 us
+    → kinds_of (map unit_from us) ≡ take standard_kinds all_kinds
+are-ten us all are = kinds-are 0 standard_kinds us all are ∙ ten-kinds
+
+pub are-eleven : (us : List UnitPart) → length us ≡ most_kinds → Follow IsUnit next_number 0 us
+    → kinds_of (map unit_from us) ≡ all_kinds
+are-eleven us all are = kinds-are 0 most_kinds us all are ∙ eleven-kinds
+
+-- there are ten of them, or eleven
+pub ten-or-eleven : (n : ℕ) → is_unit_count n ≡ true → (n ≡ standard_kinds) ⊎ (n ≡ most_kinds)
+ten-or-eleven n is = by-test (n == standard_kinds) refl
+  where
+    by-test : (b : Bool) → (n == standard_kinds) ≡ b → (n ≡ standard_kinds) ⊎ (n ≡ most_kinds)
+    by-test true same = inl (eqb-true n standard_kinds same)
+    by-test false other = inr (eqb-true n most_kinds (sym (ap (λ (b : Bool). b || (n == most_kinds)) other) ∙ is))
+
+pub count-low : (n : ℕ) → is_unit_count n ≡ true → n ≤ most_kinds
+count-low n is = low (ten-or-eleven n is)
+  where
+    low : (n ≡ standard_kinds) ⊎ (n ≡ most_kinds) → n ≤ most_kinds
+    low (inl ten) = omega (arith, ten)
+    low (inr eleven) = omega (arith, eleven)
+
+-- whether the multiplexer is among them is told by how many they are
+pub has-told : (us : List UnitPart) → is_unit_count (length us) ≡ true → Follow IsUnit next_number 0 us
+    → has_multiplexer (map unit_from us) ≡ (length us == most_kinds)
+has-told us count are = told (ten-or-eleven (length us) count)
+  where
+    told : (length us ≡ standard_kinds) ⊎ (length us ≡ most_kinds) → has_multiplexer (map unit_from us) ≡ (length us == most_kinds)
+    told (inl ten) = ten-lack (map unit_from us) (are-ten us ten are) ∙ sym (ap (λ (n : ℕ). n == most_kinds) ten)
+    told (inr eleven) = eleven-have (map unit_from us) (are-eleven us eleven are) ∙ sym (ap (λ (n : ℕ). n == most_kinds) eleven)
+
+pub lacks-told : (us : List UnitPart) → is_unit_count (length us) ≡ true → Follow IsUnit next_number 0 us
+    → not (has_multiplexer (map unit_from us)) ≡ (length us == standard_kinds)
+lacks-told us count are = told (ten-or-eleven (length us) count)
+  where
+    told : (length us ≡ standard_kinds) ⊎ (length us ≡ most_kinds) → not (has_multiplexer (map unit_from us)) ≡ (length us == standard_kinds)
+    told (inl ten) = ap not (ten-lack (map unit_from us) (are-ten us ten are)) ∙ sym (ap (λ (n : ℕ). n == standard_kinds) ten)
+    told (inr eleven) = ap not (eleven-have (map unit_from us) (are-eleven us eleven are)) ∙ sym (ap (λ (n : ℕ). n == standard_kinds) eleven)
+
+-- .. and so is whether it is missing, on either side
+pub missing-tested : (us : List UnitPart) (present : List UnitState) (n : ℕ) (b : Bool) → is_unit_count (length us) ≡ true
+    → Follow IsUnit next_number 0 us → n ≡ length us → b ≡ has_multiplexer present
+    → ((n == most_kinds) && not b) ≡ lack_multiplexer present (map unit_from us)
+missing-tested us present n b count are size has =
+    (λ i. (size i == most_kinds) && not (has i)) ∙ ap (λ (x : Bool). x && not (has_multiplexer present)) (sym (has-told us count are))
+
+pub lacking-tested : (us : List UnitPart) (present : List UnitState) (n : ℕ) (b : Bool) → is_unit_count (length us) ≡ true
+    → Follow IsUnit next_number 0 us → n ≡ length us → b ≡ has_multiplexer present
+    → (b && (n == standard_kinds)) ≡ lack_multiplexer (map unit_from us) present
+lacking-tested us present n b count are size has =
+    (λ i. has i && (size i == standard_kinds)) ∙ ap (λ (x : Bool). has_multiplexer present && x) (sym (lacks-told us count are))
+
+kinds-both : (us vs : List UnitState) → kinds_of (us ++ vs) ≡ kinds_of us ++ kinds_of vs
+kinds-both [] vs = refl
+kinds-both (u ∷ us) vs = ap (λ (ks : List Kind). u.kind ∷ ks) (kinds-both us vs)
+
+first-kinds : kinds_of (first_multiplexer ∷ []) ≡ Qty ∷ []
+unfolding first_multiplexer
+first-kinds = refl
+
+-- ten, and the multiplexer behind them
+pub ten-more : (us : List UnitState) → kinds_of us ≡ take standard_kinds all_kinds → kinds_of (us ++ first_multiplexer ∷ []) ≡ all_kinds
+ten-more us ten = kinds-both us (first_multiplexer ∷ []) ∙ (λ i. ten i ++ first-kinds i)
+
+nothing-behind : (us : List UnitState) → us ++ [] ≡ us
+nothing-behind us = append-nil us
+
+pub units-standard : (m : MachinePart) (present : List UnitState) → IsMachine m → AreStandard (units_from m.units present)
+units-standard m present is = by-count (ten-or-eleven (length m.units) is.all)
+  where
+    us : List UnitState
+    us = map unit_from m.units
+    by-present : (b : Bool) → kinds_of us ≡ take standard_kinds all_kinds
+        → AreStandard (us ++ (if b && not false then first_multiplexer ∷ [] else []))
+    by-present true ten = inr (ten-more us ten)
+    by-present false ten = inl (ap kinds_of (nothing-behind us) ∙ ten)
+    by-all : (b : Bool) → kinds_of us ≡ all_kinds
+        → AreStandard (us ++ (if b && not true then first_multiplexer ∷ [] else []))
+    by-all true eleven = inr (ap kinds_of (nothing-behind us) ∙ eleven)
+    by-all false eleven = inr (ap kinds_of (nothing-behind us) ∙ eleven)
+    behind : (b : Bool) → has_multiplexer us ≡ b
+        → us ++ (if has_multiplexer present && not b then first_multiplexer ∷ [] else []) ≡ units_from m.units present
+    behind b same = ap (λ (x : Bool). us ++ (if has_multiplexer present && not x then first_multiplexer ∷ [] else [])) (sym same)
+    by-count : (length m.units ≡ standard_kinds) ⊎ (length m.units ≡ most_kinds) → AreStandard (units_from m.units present)
+    by-count (inl ten) =
+        let kinds = are-ten m.units ten is.units in
+        subst AreStandard (behind false (ten-lack us kinds)) (by-present (has_multiplexer present) kinds)
+    by-count (inr eleven) =
+        let kinds = are-eleven m.units eleven is.units in
+        subst AreStandard (behind true (eleven-have us kinds)) (by-all (has_multiplexer present) kinds)
+
+-- a machine has at least as many units as were saved
+pub as-many-units : (us : List UnitPart) (present : List UnitState) → length us ≤ length (units_from us present)
+as-many-units us present =
+    let both = length-append (map unit_from us) (missing_from (map unit_from us) present) in
+    let same = length-map us unit_from in
+    omega (arith, both, same)
+
+-- 131 registers, of which the third is 100
+pub registers_first : slice_set (replicate 131 0) 2 100 ≡ first_multiplexer.registers
+unfolding first_multiplexer line_numbers
+registers_first = refl
+
+pub first_fits : InRange (registers Qty) first_multiplexer.registers
+unfolding first_multiplexer
+first_fits = multiplexer-begins
+
+fit-both : (us vs : List UnitState) → AllFit us → AllFit vs → AllFit (us ++ vs)
+fit-both [] vs one two = two
+fit-both (u ∷ us) vs one two = (one.0, fit-both us vs one.1 two)
+
+first-fit : AllFit (first_multiplexer ∷ [])
+unfolding first_multiplexer
+first-fit = (multiplexer-begins, tt)
+
+missing-fit : (b : Bool) → AllFit (if b then first_multiplexer ∷ [] else [])
+missing-fit true = first-fit
+missing-fit false = tt
+
+pub all-units-fit : (us : List UnitPart) (present : List UnitState) → Follow IsUnit next_number 0 us → AllFit (units_from us present)
+all-units-fit us present are =
+    fit-both (map unit_from us) (missing_from (map unit_from us) present) (units-fit 0 us are)
+    (missing-fit (lack_multiplexer (map unit_from us) present))
 
 -- ---- the events
 
@@ -102,74 +231,99 @@ record ComesBehind (x l : SavedEvent) : Type 0 where
   times : x.remaining ≤ l.remaining
   units : same_unit (event_from x).unit (event_from l).unit ≡ false
 
-position-back : (p : ℕ) → is_position p ≡ true → place_of (kind_at p) ≡ p
+position-back : (p : ℕ) → p < most_kinds → place_of (kind_at p) ≡ p
 unfolding kind_at
-position-back zero is = refl
-position-back (suc zero) is = refl
-position-back (suc (suc zero)) is = refl
-position-back (suc (suc (suc zero))) is = refl
-position-back (suc (suc (suc (suc zero)))) is = refl
-position-back (suc (suc (suc (suc (suc zero))))) is = refl
-position-back (suc (suc (suc (suc (suc (suc zero)))))) is = refl
-position-back (suc (suc (suc (suc (suc (suc (suc zero))))))) is = refl
-position-back (suc (suc (suc (suc (suc (suc (suc (suc zero)))))))) is = refl
-position-back (suc (suc (suc (suc (suc (suc (suc (suc (suc zero))))))))) is = refl
-position-back (suc (suc (suc (suc (suc (suc (suc (suc (suc (suc n)))))))))) is =
-    absurd (let low = ltb-true
-    (suc (suc (suc (suc (suc (suc (suc (suc (suc (suc n)))))))))) standard_kinds is in omega (arith, low))
+position-back zero low = refl
+position-back (suc zero) low = refl
+position-back (suc (suc zero)) low = refl
+position-back (suc (suc (suc zero))) low = refl
+position-back (suc (suc (suc (suc zero)))) low = refl
+position-back (suc (suc (suc (suc (suc zero))))) low = refl
+position-back (suc (suc (suc (suc (suc (suc zero)))))) low = refl
+position-back (suc (suc (suc (suc (suc (suc (suc zero))))))) low = refl
+position-back (suc (suc (suc (suc (suc (suc (suc (suc zero)))))))) low = refl
+position-back (suc (suc (suc (suc (suc (suc (suc (suc (suc zero))))))))) low = refl
+position-back (suc (suc (suc (suc (suc (suc (suc (suc (suc (suc zero)))))))))) low = refl
+position-back (suc (suc (suc (suc (suc (suc (suc (suc (suc (suc (suc n))))))))))) low = absurd (omega (arith, low))
 
-pub among-ten : (p : ℕ) → is_position p ≡ true → IsAmong (kind_at p) (take standard_kinds all_kinds)
+among-ten : (p : ℕ) → p < standard_kinds → IsAmong (kind_at p) (take standard_kinds all_kinds)
 unfolding kind_at
-among-ten zero is = inl refl
-among-ten (suc zero) is = inr (inl refl)
-among-ten (suc (suc zero)) is = inr (inr (inl refl))
-among-ten (suc (suc (suc zero))) is = inr (inr (inr (inl refl)))
-among-ten (suc (suc (suc (suc zero)))) is = inr (inr (inr (inr (inl refl))))
-among-ten (suc (suc (suc (suc (suc zero))))) is = inr (inr (inr (inr (inr (inl refl)))))
-among-ten (suc (suc (suc (suc (suc (suc zero)))))) is = inr (inr (inr (inr (inr (inr (inl refl))))))
-among-ten (suc (suc (suc (suc (suc (suc (suc zero))))))) is =
-    inr (inr (inr (inr (inr (inr (inr (inl refl)))))))
-among-ten (suc (suc (suc (suc (suc (suc (suc (suc zero)))))))) is =
-    inr (inr (inr (inr (inr (inr (inr (inr (inl refl))))))))
-among-ten (suc (suc (suc (suc (suc (suc (suc (suc (suc zero))))))))) is =
-    inr (inr (inr (inr (inr (inr (inr (inr (inr (inl refl)))))))))
-among-ten (suc (suc (suc (suc (suc (suc (suc (suc (suc (suc n)))))))))) is =
-    absurd (let low = ltb-true
-    (suc (suc (suc (suc (suc (suc (suc (suc (suc (suc n)))))))))) standard_kinds is in omega (arith, low))
+among-ten zero low = inl refl
+among-ten (suc zero) low = inr (inl refl)
+among-ten (suc (suc zero)) low = inr (inr (inl refl))
+among-ten (suc (suc (suc zero))) low = inr (inr (inr (inl refl)))
+among-ten (suc (suc (suc (suc zero)))) low = inr (inr (inr (inr (inl refl))))
+among-ten (suc (suc (suc (suc (suc zero))))) low = inr (inr (inr (inr (inr (inl refl)))))
+among-ten (suc (suc (suc (suc (suc (suc zero)))))) low = inr (inr (inr (inr (inr (inr (inl refl))))))
+among-ten (suc (suc (suc (suc (suc (suc (suc zero))))))) low = inr (inr (inr (inr (inr (inr (inr (inl refl)))))))
+among-ten (suc (suc (suc (suc (suc (suc (suc (suc zero)))))))) low = inr (inr (inr (inr (inr (inr (inr (inr (inl refl))))))))
+among-ten (suc (suc (suc (suc (suc (suc (suc (suc (suc zero))))))))) low = inr (inr (inr (inr (inr (inr (inr (inr (inr (inl refl)))))))))
+among-ten (suc (suc (suc (suc (suc (suc (suc (suc (suc (suc n)))))))))) low = absurd (omega (arith, low))
 
-other-unit : (x l : SavedEvent) → is_position x.position ≡ true → is_position l.position ≡ true
-    → is_event_of l.position l.unit x ≡ false → same_unit (event_from x).unit (event_from l).unit ≡ false
-other-unit x l first second other =
-    false_from_ne_true (same_unit (event_from x).unit (event_from l).unit)
-    (λ same.
-    let parts = and_parts (eqb (code_of (kind_at x.position)) (code_of (kind_at l.position)))
-    (eqb x.unit l.unit) same in
-    let kinds = same-code (kind_at x.position) (kind_at l.position)
-    (eqb-true (code_of (kind_at x.position)) (code_of (kind_at l.position)) parts.0) in
-    let positions : x.position ≡ l.position =
-    sym (position-back x.position first) ∙ ap place_of kinds ∙ position-back l.position second in
-    both_ways (is_event_of l.position l.unit x) other
-    (and_from _ _ (eq-eqb x.position l.position positions) parts.1))
+among-eleven : (p : ℕ) → p < most_kinds → IsAmong (kind_at p) all_kinds
+unfolding kind_at
+among-eleven zero low = inl refl
+among-eleven (suc zero) low = inr (inl refl)
+among-eleven (suc (suc zero)) low = inr (inr (inl refl))
+among-eleven (suc (suc (suc zero))) low = inr (inr (inr (inl refl)))
+among-eleven (suc (suc (suc (suc zero)))) low = inr (inr (inr (inr (inl refl))))
+among-eleven (suc (suc (suc (suc (suc zero))))) low = inr (inr (inr (inr (inr (inl refl)))))
+among-eleven (suc (suc (suc (suc (suc (suc zero)))))) low = inr (inr (inr (inr (inr (inr (inl refl))))))
+among-eleven (suc (suc (suc (suc (suc (suc (suc zero))))))) low = inr (inr (inr (inr (inr (inr (inr (inl refl)))))))
+among-eleven (suc (suc (suc (suc (suc (suc (suc (suc zero)))))))) low = inr (inr (inr (inr (inr (inr (inr (inr (inl refl))))))))
+among-eleven (suc (suc (suc (suc (suc (suc (suc (suc (suc zero))))))))) low = inr (inr (inr (inr (inr (inr (inr (inr (inr (inl refl)))))))))
+among-eleven (suc (suc (suc (suc (suc (suc (suc (suc (suc (suc zero)))))))))) low = inr (inr (inr (inr (inr (inr (inr (inr (inr (inr (inl refl))))))))))
+among-eleven (suc (suc (suc (suc (suc (suc (suc (suc (suc (suc (suc n))))))))))) low = absurd (omega (arith, low))
 
-comes-behind : (front : List SavedEvent) (x l : SavedEvent) → is_position x.position ≡ true → Among x front
-    → IsEvent front l
-    → ComesBehind x l
-unfolding Among
-comes-behind front x l low among is =
-    let wait = and_parts (nat_lt l.unit (units_of (kind_at l.position))) (is_free front l.position l.unit) is.unit in
-    let free = among (is_event_of l.position l.unit)
-    (not-true (list_any (is_event_of l.position l.unit) front) wait.1) in
-    let late = among (is_later l.remaining) (not-true (list_any (is_later l.remaining) front) is.last) in
-    record { times = ltb-false l.remaining x.remaining late; units = other-unit x l low is.position free }
+-- the kind at a position is among those of a standard machine
+pub among-standard : (us : List UnitState) (p : ℕ) → AreStandard us → p < length us → IsAmong (kind_at p) (kinds_of us)
+among-standard us p (inl ten) low =
+    let many = ten-many us ten in
+    subst (IsAmong (kind_at p)) (sym ten) (among-ten p (omega (arith, low, many)))
+among-standard us p (inr eleven) low =
+    let many = eleven-many us eleven in
+    subst (IsAmong (kind_at p)) (sym eleven) (among-eleven p (omega (arith, low, many)))
 
-all-behind : (front : List SavedEvent) (x : SavedEvent) (es : List SavedEvent) → is_position x.position ≡ true
-    → Among x front → Follow IsEvent with_event front es → AllByRecursion (ComesBehind x) es
-unfolding Among
-all-behind front x [] low among are = tt
-all-behind front x (l ∷ es) low among are = (
-  comes-behind front x l low among are.0,
-  all-behind (front ++ l ∷ []) x es low (λ p none. among p (any-front p front l none).0) are.1,
-)
+pub position-low : (count p : ℕ) → is_position count p ≡ true → p < count
+position-low count p is = ltb-true p count is
+
+module _ (count : ℕ) (few : count ≤ most_kinds) where
+  below : (p : ℕ) → is_position count p ≡ true → p < most_kinds
+  below p is = let low = position-low count p is in omega (arith, low, few)
+
+  other-unit : (x l : SavedEvent) → is_position count x.position ≡ true → is_position count l.position ≡ true
+      → is_event_of l.position l.unit x ≡ false → same_unit (event_from x).unit (event_from l).unit ≡ false
+  other-unit x l first second other =
+      false_from_ne_true (same_unit (event_from x).unit (event_from l).unit)
+      (λ same.
+      let parts = and_parts (eqb (code_of (kind_at x.position)) (code_of (kind_at l.position)))
+      (eqb x.unit l.unit) same in
+      let kinds = same-code (kind_at x.position) (kind_at l.position)
+      (eqb-true (code_of (kind_at x.position)) (code_of (kind_at l.position)) parts.0) in
+      let positions : x.position ≡ l.position =
+      sym (position-back x.position (below x.position first)) ∙ ap place_of kinds
+      ∙ position-back l.position (below l.position second) in
+      both_ways (is_event_of l.position l.unit x) other
+      (and_from _ _ (eq-eqb x.position l.position positions) parts.1))
+
+  comes-behind : (front : List SavedEvent) (x l : SavedEvent) → is_position count x.position ≡ true → Among x front
+      → IsEvent count front l → ComesBehind x l
+  unfolding Among
+  comes-behind front x l low among is =
+      let wait = and_parts (nat_lt l.unit (units_of (kind_at l.position))) (is_free front l.position l.unit) is.unit in
+      let free = among (is_event_of l.position l.unit)
+      (not-true (list_any (is_event_of l.position l.unit) front) wait.1) in
+      let late = among (is_later l.remaining) (not-true (list_any (is_later l.remaining) front) is.last) in
+      record { times = ltb-false l.remaining x.remaining late; units = other-unit x l low is.position free }
+
+  all-behind : (front : List SavedEvent) (x : SavedEvent) (es : List SavedEvent) → is_position count x.position ≡ true
+      → Among x front → Follow (IsEvent count) with_event front es → AllByRecursion (ComesBehind x) es
+  unfolding Among
+  all-behind front x [] low among are = tt
+  all-behind front x (l ∷ es) low among are = (
+    comes-behind front x l low among are.0,
+    all-behind (front ++ l ∷ []) x es low (λ p none. among p (any-front p front l none).0) are.1,
+  )
 
 times-behind : (x : SavedEvent) (es : List SavedEvent) → AllByRecursion (ComesBehind x) es
     → AllByRecursion (λ (later : Event). x.remaining ≤ later.remaining) (map event_from es)
@@ -181,12 +335,13 @@ units-behind : (x : SavedEvent) (es : List SavedEvent) → AllByRecursion (Comes
 units-behind x [] all = tt
 units-behind x (l ∷ es) all = (all.0.units, units-behind x es all.1)
 
-pub events-sound : (front es : List SavedEvent) → Follow IsEvent with_event front es → Sound (map event_from es)
+pub events-sound : (count : ℕ) (front es : List SavedEvent) → count ≤ most_kinds
+    → Follow (IsEvent count) with_event front es → Sound (map event_from es)
 unfolding IsDistinct Among
-events-sound front [] are = record { rising = tt; distinct = tt; units = tt; times = tt }
-events-sound front (e ∷ es) are =
-    let more = events-sound (front ++ e ∷ []) es are.1 in
-    let behind = all-behind (front ++ e ∷ []) e es are.0.position (λ p none. (any-front p front e none).1) are.1 in
+events-sound count front [] few are = record { rising = tt; distinct = tt; units = tt; times = tt }
+events-sound count front (e ∷ es) few are =
+    let more = events-sound count (front ++ e ∷ []) es few are.1 in
+    let behind = all-behind count few (front ++ e ∷ []) e es are.0.position (λ p none. (any-front p front e none).1) are.1 in
     let wait = and_parts (nat_lt e.unit (units_of (kind_at e.position))) (is_free front e.position e.unit) are.0.unit in
     record {
       rising = (times-behind e es behind, more.rising);

@@ -1,10 +1,12 @@
 -- Units and events of a saved machine that are put into one, one behind another.
-use Rattle.std.proofs.Common.{◌≡◌, ℕ, zero, suc, ◌+◌, ◌<◌, ◌≤◌, ◌==◌, Bool, true, false, not, IsTrue, List, [], ◌∷◌, ◌++◌, length, map, take, drop, get_or, Option, Some, None, is_some, inl, inr, refl, sym, ap, subst, ◌∙◌, if◌then◌else◌}
-use Rattle.std.specs.Prelude.{nat_lt}
+use Rattle.std.proofs.Common.{◌≡◌, ◌⊎◌, ◌&&◌, append-nil, arith, ℕ, zero, suc, ◌+◌, ◌<◌, ◌≤◌, ◌==◌, Bool, true, false, not, IsTrue, List, [], ◌∷◌, ◌++◌, length, map, take, drop, get_or, Option, Some, None, is_some, inl, inr, refl, sym, ap, subst, ◌∙◌, if◌then◌else◌}
+use Rattle.std.specs.Prelude.{nat_lt, slice_get, option_map}
 use Rattle.std.specs.List.{AllByRecursion, IsDistinct, list_any}
-use Rattle.std.proofs.lemmas.Bool.{and_parts, eq-eqb, ltb-true}
+use Rattle.std.proofs.lemmas.Bool.{false≢true, and_parts, eq-eqb, ltb-true, lt-ltb}
+use Rattle.std.proofs.lemmas.Option.{slice_get-map}
 use Rattle.std.proofs.lemmas.List.{drop_more, drop_all, length-map}
 use Rattle.unit_trait.specs.declared.kind.Kind.{Kind}
+use Rattle.unit_trait.specs.declared.kind.Kind.TheVariants.{Qty}
 use Rattle.unit_trait.specs.Kinds.{all_kinds, units_of, code_of}
 use Rattle.unit_trait.specs.Registers.{registers}
 use Rattle.unit_trait.specs.Calls.{UnitState}
@@ -16,28 +18,31 @@ use Rattle.event_queue.specs.EventList.{Event, activated}
 use Rattle.event_queue.specs.Agenda.{asked_in_order}
 use Rattle.event_queue.proofs.Agendas.{agenda-stands}
 use Rattle.nova_machine.specs.Core.{IsAmong}
-use Rattle.nova_machine.specs.Machine.{MachineState, place_of as line_place}
+use Rattle.nova_machine.specs.Machine.{MachineState, has_multiplexer, console_place, place_of as line_place}
 use Rattle.terminal_ports.specs.Ports.{changed_at}
 use Rattle.nova_machine.specs.Seen.{unnumbered, erased, Beside}
 use Rattle.unit_files.specs.Attachments.{Held, attachments_of, no_attachments}
 use Rattle.saved_session.specs.declared.saved.SavedUnit.{SavedUnit}
 use Rattle.saved_session.specs.declared.saved.SavedEvent.{SavedEvent}
-use Rattle.saved_session.specs.Parts.{unit_in, MachinePart, State}
+use Rattle.saved_session.specs.declared.saved.SavedPorts.{SavedPorts}
+use Rattle.saved_session.specs.Parts.{unit_in, UnitPart, MachinePart, State}
 use Rattle.state_transfer.specs.Putting.{with_machine_of, IsSeenAs, IsPutBack}
-use Rattle.state_transfer.specs.Listening.{with_port, AreClosed}
+use Rattle.state_transfer.specs.Listening.{AreClosed}
+use Rattle.state_transfer.specs.Ports.{row_from, how_many, is_line, multiplexer_lines, assigned, with_ports}
 use Rattle.host_lines.specs.Traffic.{Peer}
 use Rattle.host_lines.specs.Told.{ahead_of}
 use Rattle.host_lines.specs.State.{LineState}
 use Rattle.telnet_lines.specs.Line.{LineOf, unconnected}
 use Rattle.telnet_lines.specs.Joined.{seen_line}
 use Rattle.saved_files.specs.Putting.{with_all}
-use Rattle.state_transfer.specs.PutBack.{unit_from, event_from, held_from, machine_from, lines_from}
+use Rattle.state_transfer.specs.PutBack.{unit_from, lack_multiplexer, first_multiplexer, units_from, event_from, held_from, machine_from, lines_from}
 use Rattle.saved_session.specs.SavedWatch.{watch_from}
-use Rattle.saved_session.specs.Ranges.{kind_at, standard_kinds, is_position, is_event_of}
+use Rattle.saved_session.specs.Ranges.{kind_at, standard_kinds, most_kinds, is_unit_count, is_position, is_event_of}
 use Rattle.saved_session.specs.Order.{next_number, with_event}
 use Rattle.state_transfer.specs.SavedValid.{AreStandard}
 use Rattle.saved_session.specs.Valid.{Follow, IsUnit, IsEvent}
-use Rattle.state_transfer.proofs.PutBackMachineLemmas.{ten-standard, among-ten, events-sound}
+use Rattle.state_transfer.proofs.TakingLemmas.{ten-lack, eleven-have, ten-many, eleven-many}
+use Rattle.state_transfer.proofs.PutBackMachineLemmas.{are-ten, are-eleven, ten-or-eleven, ten-more, among-standard, position-low, events-sound}
 
 -- ---- all units
 
@@ -51,18 +56,87 @@ pub each-fits : (us : List SavedUnit) → AllFit (units_said us)
 each-fits [] fit = tt
 each-fits (u ∷ us) fit = (fit.0, each-fits us fit.1)
 
-pub parts-long : (us : List SavedUnit) (n : ℕ) → length us ≡ n → length (map unit_in us) ≡ n
-parts-long us n same = length-map us unit_in ∙ same
+pub parts-long : (us : List SavedUnit) → length (map unit_in us) ≡ length us
+parts-long us = length-map us unit_in
+
+pub count-of-parts : (us : List SavedUnit) → is_unit_count (length us) ≡ true → is_unit_count (length (map unit_in us)) ≡ true
+count-of-parts us count = ap is_unit_count (parts-long us) ∙ count
 
 ten-distinct : IsDistinct same_kind (take standard_kinds all_kinds)
 unfolding IsDistinct
 ten-distinct = ((refl, (refl, (refl, (refl, (refl, (refl, (refl, (refl, (refl, tt))))))))), ((refl, (refl, (refl, (refl, (refl, (refl, (refl, (refl, tt)))))))), ((refl, (refl, (refl, (refl, (refl, (refl, (refl, tt))))))), ((refl, (refl, (refl, (refl, (refl, (refl, tt)))))), ((refl, (refl, (refl, (refl, (refl, tt))))), ((refl, (refl, (refl, (refl, tt)))), ((refl, (refl, (refl, tt))), ((refl, (refl, tt)), ((refl, tt), (tt, tt))))))))))
 
-pub units-stand : (units : List UnitState) (us : List SavedUnit) → AreStandard units → length us ≡ standard_kinds
-    → Follow IsUnit next_number 0 (map unit_in us) → units_set units (units_said us) ≡ units_said us
-units-stand units us standard all follow =
-    units-whole.set units (units_said us) (subst (IsDistinct same_kind) (sym standard) ten-distinct)
-    (ten-standard (map unit_in us) (parts-long us standard_kinds all) follow ∙ sym standard)
+eleven-distinct : IsDistinct same_kind all_kinds
+unfolding IsDistinct
+eleven-distinct = ((refl, (refl, (refl, (refl, (refl, (refl, (refl, (refl, (refl, (refl, tt)))))))))), ((refl, (refl, (refl, (refl, (refl, (refl, (refl, (refl, (refl, tt))))))))), ((refl, (refl, (refl, (refl, (refl, (refl, (refl, (refl, tt)))))))), ((refl, (refl, (refl, (refl, (refl, (refl, (refl, tt))))))), ((refl, (refl, (refl, (refl, (refl, (refl, tt)))))), ((refl, (refl, (refl, (refl, (refl, tt))))), ((refl, (refl, (refl, (refl, tt)))), ((refl, (refl, (refl, tt))), ((refl, (refl, tt)), ((refl, tt), (tt, tt)))))))))))
+
+standard-distinct : (units : List UnitState) → AreStandard units → IsDistinct same_kind (kinds_of units)
+standard-distinct units (inl ten) = subst (IsDistinct same_kind) (sym ten) ten-distinct
+standard-distinct units (inr eleven) = subst (IsDistinct same_kind) (sym eleven) eleven-distinct
+
+-- the units that are put are of the kinds that are there
+module _ (units : List UnitState) (us : List UnitPart) (count : is_unit_count (length us) ≡ true)
+    (follow : Follow IsUnit next_number 0 us) (found : lack_multiplexer units (map unit_from us) ≡ false) where
+  missing-told : (b : Bool) → lack_multiplexer (map unit_from us) units ≡ b
+      → units_from us units ≡ (map unit_from us) ++ (if b then first_multiplexer ∷ [] else [])
+  missing-told b same = ap (λ (x : Bool). (map unit_from us) ++ (if x then first_multiplexer ∷ [] else [])) same
+
+  same-kinds : AreStandard units → (length us ≡ standard_kinds) ⊎ (length us ≡ most_kinds)
+      → kinds_of (units_from us units) ≡ kinds_of units
+  same-kinds (inl ten) (inl few) =
+      let lack : lack_multiplexer (map unit_from us) units ≡ false =
+      ap (λ (b : Bool). b && not (has_multiplexer (map unit_from us))) (ten-lack units ten) in
+      ap kinds_of (missing-told false lack ∙ append-nil (map unit_from us)) ∙ are-ten us few follow ∙ sym ten
+  same-kinds (inl ten) (inr many) =
+      let has = eleven-have (map unit_from us) (are-eleven us many follow) in
+      let lack : lack_multiplexer units (map unit_from us) ≡ true =
+      (λ i. has i && not (ten-lack units ten i)) in
+      absurd (false≢true (sym found ∙ lack))
+  same-kinds (inr eleven) (inl few) =
+      let kinds = are-ten us few follow in
+      let lack : lack_multiplexer (map unit_from us) units ≡ true =
+      (λ i. eleven-have units eleven i && not (ten-lack (map unit_from us) kinds i)) in
+      ap kinds_of (missing-told true lack) ∙ ten-more (map unit_from us) kinds ∙ sym eleven
+  same-kinds (inr eleven) (inr many) =
+      let kinds = are-eleven us many follow in
+      let lack : lack_multiplexer (map unit_from us) units ≡ false =
+      (λ i. eleven-have units eleven i && not (eleven-have (map unit_from us) kinds i)) in
+      ap kinds_of (missing-told false lack ∙ append-nil (map unit_from us)) ∙ kinds ∙ sym eleven
+
+  pub units-stand : AreStandard units → units_set units (units_from us units) ≡ units_from us units
+  units-stand standard =
+      units-whole.set units (units_from us units) (standard-distinct units standard)
+      (same-kinds standard (ten-or-eleven (length us) count))
+
+set-both : (units us vs : List UnitState) → units_set units (us ++ vs) ≡ units_set (units_set units us) vs
+set-both units [] vs = refl
+set-both units (u ∷ us) vs = set-both (with_registers_in u.kind u.registers units) us vs
+
+first-kind : first_multiplexer.kind ≡ Qty
+unfolding first_multiplexer
+first-kind = refl
+
+-- all saved units were put, and the multiplexer, where it was not among them
+module _ (units : List UnitState) (us : List UnitPart) (m : List UnitState) (b : Bool)
+    (told : lack_multiplexer (map unit_from us) units ≡ b)
+    (so_far : m ≡ units_set units (map unit_from us))
+    (stand : units_set units (units_from us units) ≡ units_from us units) where
+  pub first-put : b ≡ true → (n : List UnitState) → n ≡ with_registers_in Qty first_multiplexer.registers m
+      → n ≡ units_from us units
+  first-put lacks n becomes =
+      let whole : units_from us units ≡ map unit_from us ++ first_multiplexer ∷ [] =
+      ap (λ (x : Bool). map unit_from us ++ (if x then first_multiplexer ∷ [] else [])) (told ∙ lacks) in
+      becomes ∙ ap (with_registers_in Qty first_multiplexer.registers) so_far
+      ∙ ap (λ (k : Kind). with_registers_in k first_multiplexer.registers (units_set units (map unit_from us))) (sym first-kind)
+      ∙ sym (set-both units (map unit_from us) (first_multiplexer ∷ []))
+      ∙ sym (ap (units_set units) whole) ∙ stand
+
+  pub none-put : b ≡ false → m ≡ units_from us units
+  none-put lacks =
+      let whole : units_from us units ≡ map unit_from us =
+      ap (λ (x : Bool). map unit_from us ++ (if x then first_multiplexer ∷ [] else [])) (told ∙ lacks)
+      ∙ append-nil (map unit_from us) in
+      so_far ∙ sym (ap (units_set units) whole) ∙ stand
 
 -- one unit more was put
 pub unit-more : (us : List SavedUnit) (i : ℕ) (u : SavedUnit) (m n all : List UnitState) → i < length us
@@ -92,28 +166,49 @@ units-alone old m n units becomes was =
 abbrev pub events_said : List SavedEvent → List Event
 events_said es = map event_from es
 
-pub number-low : (front : List SavedEvent) (e : SavedEvent) → IsEvent front e
+pub number-low : (count : ℕ) (front : List SavedEvent) (e : SavedEvent) → IsEvent count front e
     → e.unit < units_of (kind_at e.position)
-number-low front e is =
+number-low count front e is =
     ltb-true e.unit (units_of (kind_at e.position))
     (and_parts (nat_lt e.unit (units_of (kind_at e.position)))
     (not (list_any (is_event_of e.position e.unit) front)) is.unit).0
 
-pub events-stand : (es : List SavedEvent) → Follow IsEvent with_event [] es
+pub events-stand : (count : ℕ) (es : List SavedEvent) → count ≤ most_kinds → Follow (IsEvent count) with_event [] es
     → asked_in_order [] (events_said es) ≡ events_said es
-events-stand es follow = agenda-stands (events_said es) (events-sound [] es follow)
+events-stand count es few follow = agenda-stands (events_said es) (events-sound count [] es few follow)
 
 -- what is asked of an event before it is put
-pub record CanWait (e : SavedEvent) : Type 0 where
+pub record CanWait (count : ℕ) (e : SavedEvent) : Type 0 where
   pub number : e.unit < units_of (kind_at e.position)
-  pub position : is_position e.position ≡ true
+  pub position : is_position count e.position ≡ true
 
-pub each-waits : (front es : List SavedEvent) → Follow IsEvent with_event front es → AllByRecursion CanWait es
-each-waits front [] follow = tt
-each-waits front (e ∷ es) follow = (
-  record { number = number-low front e follow.0; position = follow.0.position },
-  each-waits (front ++ e ∷ []) es follow.1,
+pub each-waits : (count : ℕ) (front es : List SavedEvent) → Follow (IsEvent count) with_event front es
+    → AllByRecursion (CanWait count) es
+each-waits count front [] follow = tt
+each-waits count front (e ∷ es) follow = (
+  record { number = number-low count front e follow.0; position = follow.0.position },
+  each-waits count (front ++ e ∷ []) es follow.1,
 )
+
+-- events of some units are events of more
+pub of-more : (a b : ℕ) (front es : List SavedEvent) → a ≤ b → Follow (IsEvent a) with_event front es
+    → Follow (IsEvent b) with_event front es
+of-more a b front [] more follow = tt
+of-more a b front (e ∷ es) more follow =
+    let low = position-low a e.position follow.0.position in (
+      record {
+        position = lt-ltb e.position b (omega (arith, low, more));
+        unit = follow.0.unit;
+        remaining = follow.0.remaining;
+        last = follow.0.last;
+      },
+      of-more a b (front ++ e ∷ []) es more follow.1,
+    )
+
+-- a standard machine has eleven units at the most
+pub few-units : (units : List UnitState) → AreStandard units → length units ≤ most_kinds
+few-units units (inl ten) = let many = ten-many units ten in omega (arith, many)
+few-units units (inr eleven) = let many = eleven-many units eleven in omega (arith, many)
 
 or-later : (b : Bool) (u : UnitState) (o : Option UnitState) → is_some o ≡ true
     → is_some (if b then Some u else o) ≡ true
@@ -127,10 +222,10 @@ there k (u ∷ us) (inl same) =
     (eq-eqb (code_of u.kind) (code_of k) (ap code_of same))
 there k (u ∷ us) (inr later) = or-later (code_of u.kind == code_of k) u (unit_at (code_of k) us) (there k us later)
 
-pub unit-there : (units : List UnitState) (p : ℕ) → AreStandard units → is_position p ≡ true
+pub unit-there : (units : List UnitState) (p : ℕ) → AreStandard units → is_position (length units) p ≡ true
     → IsTrue (is_some (unit_at (code_of (kind_at p)) units))
-unit-there units p standard low =
-    there (kind_at p) units (subst (IsAmong (kind_at p)) (sym standard) (among-ten p low))
+unit-there units p standard is =
+    there (kind_at p) units (among-standard units p standard (position-low (length units) p is))
 
 -- one event more was put
 pub event-more : (es : List SavedEvent) (i : ℕ) (e : SavedEvent) (m n all : List Event) → i < length es
@@ -185,30 +280,46 @@ seen-changed s zero port (line ∷ lines) = refl
 seen-changed s (suc place) port (line ∷ lines) =
     ap (λ (l : List (LineOf Peer)). seen_line s line ∷ l) (seen-changed s place port lines)
 
-none-changed : (place : ℕ) (lines : List (LineOf Peer))
-    → map (λ (line : LineOf Peer). unconnected None) lines
-    ≡ changed_at place (λ (line : LineOf Peer). unconnected None) (map (λ (line : LineOf Peer). unconnected None) lines)
-none-changed place [] = refl
-none-changed zero (line ∷ lines) = refl
-none-changed (suc place) (line ∷ lines) = ap (λ (l : List (LineOf Peer)). unconnected None ∷ l) (none-changed place lines)
+-- a line is there where it is seen
+line-there : (s : LineState) (number : ℕ) (lines : List (LineOf ℕ))
+    → is_line number (map (seen_line s) lines) ≡ is_line number lines
+line-there s number lines =
+    ap is_some (slice_get-map (seen_line s) lines (line_place number)) ∙ some-mapped (slice_get lines (line_place number))
+  where
+    some-mapped : (o : Option (LineOf ℕ)) → is_some (option_map (seen_line s) o) ≡ is_some o
+    some-mapped None = refl
+    some-mapped (Some line) = refl
 
-port-lines : (port : ℕ) (old new : LineState) (lines : List (LineOf ℕ)) → AreClosed lines
-    → map (seen_line new) (with_port port lines) ≡ lines_from port (map (seen_line old) lines)
-port-lines zero old new lines closed =
-    closed-lines old new lines closed ∙ none-changed (line_place 0) (map (seen_line old) lines)
-port-lines (suc n) old new lines closed =
-    seen-changed new (line_place 0) (Some (suc n)) lines
-    ∙ ap (changed_at (line_place 0) (λ (line : LineOf Peer). unconnected (Some (suc n)))) (closed-lines old new lines closed)
+same-assigned : (p : SavedPorts) (s : LineState) (lines : List (LineOf ℕ)) → assigned p lines ≡ assigned p (map (seen_line s) lines)
+unfolding assigned
+same-assigned p s lines = λ i.
+    row_from (how_many p.tti1 1 (sym (line-there s 0 lines) i)) (line_place 0) p.tti1
+    ++ (row_from (how_many p.qty multiplexer_lines (sym (line-there s multiplexer_lines lines) i)) (line_place 1) p.qty
+    ++ row_from (how_many p.console 1 true) console_place p.console)
+
+-- lines that get ports are seen so
+seen-ports : (s : LineState) (given : List (ℕ × ℕ)) (lines : List (LineOf ℕ))
+    → map (seen_line s) (with_ports given lines) ≡ with_ports given (map (seen_line s) lines)
+seen-ports s [] lines = refl
+seen-ports s (g ∷ given) lines =
+    seen-ports s given (changed_at g.0 (λ (line : LineOf ℕ). unconnected (Some g.1)) lines)
+    ∙ ap (with_ports given) (seen-changed s g.0 (Some g.1) lines)
+
+port-lines : (p : SavedPorts) (old new : LineState) (lines : List (LineOf ℕ)) → AreClosed lines
+    → map (seen_line new) (with_ports (assigned p lines) lines) ≡ lines_from p (map (seen_line old) lines)
+port-lines p old new lines closed =
+    seen-ports new (assigned p lines) lines
+    ∙ (λ i. with_ports (same-assigned p old lines i) (closed-lines old new lines closed i))
 
 pub is-put-back : (s : State) (before after : Beside) (old new : MachineState) → after.files ≡ before.files
-    → erased new ≡ machine_from s.machine (with_all no_attachments s.files) before.files
-    → new.lines ≡ with_port s.port old.lines → after.watch ≡ watch_from s.watch → IsPutBack s before old after new
+    → erased new ≡ machine_from s.machine old.units (with_all no_attachments s.files) before.files
+    → new.lines ≡ with_ports (assigned s.ports old.lines) old.lines → after.watch ≡ watch_from s.watch → IsPutBack s before old after new
 is-put-back s before after old new files machine lines watch closed keys whole = λ i. record {
   machine = machine i;
   watch = watch i;
   keys = sym keys i;
   files = files i;
   lines = (ap (λ (l : List (LineOf ℕ)). map (seen_line after.lines) l) lines
-      ∙ port-lines s.port before.lines after.lines old.lines closed) i;
+      ∙ port-lines s.ports before.lines after.lines old.lines closed) i;
   ahead = ahead_of after.lines.told whole;
 }

@@ -12,7 +12,7 @@ use Rattle.nova_machine.specs.Seen.{erased, seen, beside, attached_in}
 use Rattle.nova_machine.proofs.Serving.{erased-attached}
 use Rattle.saved_session.specs.Parts.{State}
 use Rattle.saved_files.specs.Taking.{file_places, saved_files}
-use Rattle.state_transfer.specs.Session.{saved_machine, saved_port, saved}
+use Rattle.state_transfer.specs.Session.{saved_machine, saved_ports, saved}
 use Rattle.saved_session.specs.SavedWatch.{saved_watch}
 
 -- neither what is attached nor the disk's copy is saved with the machine
@@ -24,7 +24,7 @@ same-machine m a = refl
 pub record IsTaken (x : State) (m : MachineState) (slots : List (Option Held)) (w : WatchState) (files : List NamedBytes) : Type 0 where
   pub machine : x.machine ≡ saved_machine m
   pub files_are : x.files ≡ saved_files files (attachments_of slots) file_places
-  pub port : (s : LineState) → x.port ≡ saved_port (map (seen_line s) m.lines)
+  pub ports : (s : LineState) → x.ports ≡ saved_ports (map (seen_line s) m.lines)
   pub watch : x.watch ≡ saved_watch w
 
 pub taken-is-saved : (x : State) (m : MachineState) (a : AttachedFiles) (w : WatchState) (files : List NamedBytes) (keys : List (ℕ × ℕ)) (lines : LineState) (whole : List Answer)
@@ -34,4 +34,4 @@ taken-is-saved x m a w files keys lines whole is =
     let here : x.files ≡ saved_files files (attached_in (erased (with_attached_files m a))) file_places =
     is.files_are
     ∙ ap (λ (l : List (Option Attachment)). saved_files files l file_places) (sym (erased-attached a.slots)) in
-    λ i. record { machine = machine i; files = here i; port = is.port lines i; watch = is.watch i }
+    λ i. record { machine = machine i; files = here i; ports = is.ports lines i; watch = is.watch i }

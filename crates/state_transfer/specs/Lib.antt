@@ -1,5 +1,6 @@
 pub mod Processor
 pub mod Session
+pub mod Ports
 pub mod PutBack
 pub mod SavedValid
 pub mod Putting

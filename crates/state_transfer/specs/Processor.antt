@@ -1,4 +1,5 @@
--- What is saved of the processor, with its interrupts, its switches and the clock, and what is put back of them.
+-- What is saved of the processor, with its interrupts, its switches, the rule of the auto-index locations and the clock, and
+-- what is put back of them.
 use Rattle.std.specs.Prelude.{ℕ, ◌/◌, ◌==◌, Bool}
 use Rattle.nova_processor.specs.declared.cpu.Cpu.{Cpu}
 use Rattle.nova_interrupts.specs.declared.interrupts.Ints.{Ints}
@@ -18,6 +19,7 @@ saved_cpu m = record {
   mask = m.ints.mask;
   sr = m.sr;
   stop_dev = flag_of m.stop_dev;
+  autobit = flag_of m.processor.memory.before;
   time = m.time;
   keys_taken = m.taken;
 }
@@ -43,7 +45,7 @@ with_interrupts_of m c = record m { ints = interrupts_from c }
 abbrev pub with_switches_of : MachineState → SavedCpu → MachineState
 with_switches_of m c = record m { sr = c.sr; stop_dev = is_set c.stop_dev }
 
--- all of these, and the clock; memory stays
+-- all of these, and the clock; memory stays, with its rule
 abbrev pub with_cpu_of : MachineState → SavedCpu → MachineState
 with_cpu_of m c = record (with_switches_of (with_interrupts_of (with_registers_of m c) c) c) {
   time = c.time;

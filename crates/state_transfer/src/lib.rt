@@ -3,6 +3,7 @@
 
 mod processor;
 mod putting;
+pub mod putting_ports;
 pub mod putting_state;
 pub mod taking;
 mod taking_machine;

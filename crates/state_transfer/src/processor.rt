@@ -1,4 +1,5 @@
-// The processor, with its interrupts, its switches and the clock: what is saved of them is taken, and put back.
+// The processor, with its interrupts, its switches, the rule of the auto-index locations and the clock: what is saved of
+// them is taken, and put back.
 ghost use Rattle.std.specs.Prelude.{◌≡◌};
 ghost use Rattle.unit_trait.specs.Processor.{CanHold};
 ghost use Rattle.nova_machine.specs.Registers.{with_register};
@@ -18,7 +19,7 @@ fn numbers_of(words: [Word; 4]) -> [u16; 4]
     [first.0, second.0, third.0, fourth.0]
 }
 
-/// The processor, the interrupts and the clock.
+/// The processor, the interrupts, the switches, the rule of the auto-index locations and the clock.
 pub fn taken_cpu<U: Unit>(machine: &Machine<U>) -> SavedCpu
     ensures { result ≡ saved_cpu machine.now }
 {
@@ -32,6 +33,7 @@ pub fn taken_cpu<U: Unit>(machine: &Machine<U>) -> SavedCpu
         mask: machine.cpu_reg(CpuReg::Mask) as u16,
         sr: machine.cpu_reg(CpuReg::Sr) as u16,
         stop_dev: machine.cpu_reg(CpuReg::StopDev) as u8,
+        autobit: machine.memory().autobit() as u8,
         time: machine.time(),
         keys_taken: machine.keys_taken(),
     }
@@ -86,7 +88,7 @@ fn put_switches<U: Unit>(machine: &mut Machine<U>, cpu: &SavedCpu)
     put_register(machine, CpuReg::StopDev, u16::from(cpu.stop_dev));
 }
 
-/// The processor, the interrupts, the switches and the clock. Memory stays as it is, whatever its size.
+/// The processor, the interrupts, the switches and the clock. Memory stays as it is, with its rule, whatever its size.
 pub fn put_cpu<U: Unit>(machine: &mut Machine<U>, cpu: &SavedCpu)
     requires { IsCpu cpu.now }
     ensures { machine.new ≡ with_cpu_of machine.old cpu.now }

@@ -12,10 +12,10 @@ ghost use Rattle.saved_session.specs.Parts.{state_in};
 ghost use Rattle.saved_files.specs.Taking.{first_unsaved, disk_flushed, files_flushed, copy_flushed, save_claim, UnlessNoMemory, IfNoMemory, SaveCause};
 ghost use Rattle.state_transfer.specs.SavedValid.{AreStandard};
 ghost use Rattle.saved_session.specs.Valid.{Fits};
-ghost use Rattle.state_transfer.specs.Session.{saved, saved_machine, saved_port};
+ghost use Rattle.state_transfer.specs.Session.{saved, saved_machine, saved_ports};
 ghost use Rattle.saved_session.specs.SavedWatch.{saved_watch};
 
-use crate::taking_machine::{taken_machine, taken_port};
+use crate::taking_machine::{taken_machine, taken_ports};
 use expect_actions::Watch;
 use file_traits::Files;
 use nova_machine::Machine;
@@ -24,9 +24,10 @@ use saved_session::{Saved, joined, taken_watch};
 use std::alloc::{AllocError, Global};
 use unit_trait::Unit;
 
-/// What a state file has of a session: its machine, of the ten standard kinds of units, its watch tables, the files
-/// that are attached, and the port of its second teletype. What the disk holds of its file is written back first, and
-/// then each file is read, in bus order. All memory is taken before that, so after `OutOfMemory` all is as it was.
+/// What a state file has of a session: its machine, of the ten standard kinds of units or of these and the multiplexer,
+/// its watch tables, the files that are attached, and the ports of its lines. What the disk holds of its file is written
+/// back first, and then each file is read, in bus order. All memory is taken before that, so after `OutOfMemory` all is
+/// as it was.
 /// After `Failed` of that write the disk's file is as it leaves it, and its copy is still to be written back; after
 /// `Failed` of a length or a read the copy is written back. Nothing else of the session changes. Whatever files tell,
 /// the answer has a text, which `write_state` writes.
@@ -43,8 +44,8 @@ pub fn take_state<U: Unit, F: Files>(
     ensures fits { IfOk result (λ v. Fits (state_in v)) }
     ensures machine_part { IfOk result (λ v. (state_in v).machine ≡ saved_machine machine.old) }
     ensures watch_part { IfOk result (λ v. (state_in v).watch ≡ saved_watch watch.now) }
-    ensures port_part { IfOk result (λ v. (lines : LineState)
-        → (state_in v).port ≡ saved_port (map (seen_line lines) machine.old.lines)) }
+    ensures ports_part { IfOk result (λ v. (lines : LineState)
+        → (state_in v).ports ≡ saved_ports (map (seen_line lines) machine.old.lines)) }
     ensures first { IsTrue F.tells → InStep (attached_files machine.old) (F.state files.old).files
         → UnlessNoMemory result (first_unsaved (save_claim result) (attached_in machine.old) machine.old.disk
         (F.state files.old).files ≡ save_claim result) }
@@ -71,9 +72,9 @@ pub fn take_state<U: Unit, F: Files>(
         Ok(tables) => tables,
         Err(AllocError) => return Err(SaveFault::OutOfMemory),
     };
-    let port = taken_port(machine);
+    let ports = taken_ports(machine);
     match digest_all(alloc, machine.attached_mut(), files) {
-        Ok(attachments) => Ok(joined(parts, attachments, port, tables)),
+        Ok(attachments) => Ok(joined(parts, attachments, ports, tables)),
         Err(fault) => Err(fault),
     }
 }

@@ -1,4 +1,4 @@
-// What is saved of a machine is taken from it: its processor, words, units, events and the port of its second teletype.
+// What is saved of a machine is taken from it: its processor, words, units, events and the ports of its lines.
 ghost use Rattle.std.specs.Prelude.{◌≡◌, ◌<◌, map, option_map, slice_get, take, Some, IfOk, ℕ, length};
 ghost use Rattle.host_lines.specs.State.{LineState};
 ghost use Rattle.telnet_lines.specs.Joined.{seen_line};
@@ -11,19 +11,18 @@ ghost use Rattle.saved_session.specs.Parts.{unit_in};
 ghost use Rattle.saved_session.specs.Ranges.{kind_at, standard_kinds};
 ghost use Rattle.state_transfer.specs.SavedValid.{AreStandard};
 ghost use Rattle.saved_session.specs.Valid.{MachineFits};
-ghost use Rattle.state_transfer.specs.Session.{saved_unit, saved_event, saved_machine, saved_port};
+ghost use Rattle.state_transfer.specs.Session.{saved_unit, saved_event, saved_machine, saved_ports, port_number, port_of as port_if};
+ghost use Rattle.nova_machine.specs.Machine.{place_of as line_place};
 
 use crate::processor::taken_cpu;
 use event_queue::Events;
 use nova_machine::Machine;
 use nova_memory::Memory;
 use nova_word::{Addr, Word};
-use saved_session::{MachineFields, SavedEvent, SavedUnit, kind_at, register_count};
+use saved_session::{MachineFields, SavedEvent, SavedPorts, SavedUnit, kind_at, register_count};
 use std::alloc::{AllocError, Global};
+use telnet_lines::Line;
 use unit_trait::{Kind, Unit};
-
-/// How many units a machine has: one of each kind of a standard machine.
-const UNITS: u8 = 10;
 
 /// The words below the size of memory.
 pub fn taken_words(alloc: Global, memory: &Memory) -> Result<Vec<u16>, AllocError>
@@ -56,6 +55,14 @@ fn taken_registers<U: Unit>(
     Ok(registers)
 }
 
+// How many units a standard machine has.
+fn unit_count<U: Unit>(machine: &Machine<U>) -> u8
+    requires { AreStandard machine.now.units }
+    ensures { result ≡ length machine.now.units }
+{
+    if machine.has_unit(Kind::Qty) { 11 } else { 10 }
+}
+
 /// All units, in bus order.
 pub fn taken_units<U: Unit>(
     alloc: Global,
@@ -65,7 +72,7 @@ pub fn taken_units<U: Unit>(
     ensures { IfOk result (λ v. map unit_in v.items ≡ map saved_unit machine.now.units) }
 {
     let mut units = Vec::new(alloc);
-    for position in 0..UNITS {
+    for position in 0..unit_count(machine) {
         let registers = taken_registers(alloc, machine, kind_at(position))?;
         units.push(SavedUnit {
             position,
@@ -123,7 +130,7 @@ pub fn taken_agenda(alloc: Global, events: &Events) -> Result<Vec<SavedEvent>, A
     Ok(agenda)
 }
 
-/// All that is saved of a machine but its files and its port.
+/// All that is saved of a machine but its files and its ports.
 #[tactic(auto, unfolding(crate::specs::Session::saved_machine))]
 pub fn taken_machine<U: Unit>(
     alloc: Global,
@@ -143,13 +150,32 @@ pub fn taken_machine<U: Unit>(
     })
 }
 
-/// The port of the second teletype's line, whoever is connected to it; 0 is none.
-#[tactic(auto, unfolding(crate::specs::Session::saved_port))]
-pub fn taken_port<U: Unit>(machine: &Machine<U>) -> u16
-    ensures { (s : LineState) → result ≡ saved_port (map (seen_line s) machine.now.lines) }
+// The port of a line, whoever is connected to it; 0 is none.
+fn port_of(line: &Line) -> u16
+    ensures { result ≡ port_number line.now.port }
 {
-    match machine.line_at(0) {
-        Some(line) => line.port().unwrap_or(0),
+    line.port().unwrap_or(0)
+}
+
+// The same of a terminal line by its number; 0 where it is not there.
+fn port_at<U: Unit>(machine: &Machine<U>, number: u8) -> u16
+    ensures { (s : LineState) → result ≡ port_if (slice_get (map (seen_line s) machine.now.lines) (line_place number)) }
+{
+    match machine.line_at(number) {
+        Some(line) => port_of(line),
         None => 0,
+    }
+}
+
+/// The ports of the second teletype's line, of the multiplexer's first and of the console's, whoever is connected to
+/// them; 0 is none.
+#[tactic(auto, unfolding(crate::specs::Session::saved_ports))]
+pub fn taken_ports<U: Unit>(machine: &Machine<U>) -> SavedPorts
+    ensures { (s : LineState) → result ≡ saved_ports (map (seen_line s) machine.now.lines) }
+{
+    SavedPorts {
+        tti1: port_at(machine, 0),
+        qty: port_at(machine, 1),
+        console: port_of(machine.console_at()),
     }
 }

@@ -1,8 +1,10 @@
 -- Lines whose ports are apart stay so where one of them gets a port that none has, or loses its own.
-use Rattle.std.proofs.Common.{◌≡◌, ◌≢◌, ℕ, zero, suc, List, [], ◌∷◌, map, slice_get, slice_set, Option, Some, None, refl, ap, sym, subst, ◌∙◌}
+use Rattle.std.proofs.Common.{◌≡◌, ◌≢◌, ℕ, zero, suc, Bool, false, ◌||◌, List, [], ◌∷◌, map, slice_get, slice_set, Option, Some, None, refl, ap, sym, subst, ◌∙◌}
+use Rattle.std.specs.List.{list_any}
+use Rattle.std.proofs.lemmas.Bool.{false≢true, or_parts, eq-eqb}
 use Rattle.std.proofs.lemmas.Option.{same_Some}
 use Rattle.telnet_lines.specs.Line.{LineOf, unconnected}
-use Rattle.terminal_ports.specs.Ports.{changed_at, HasOther, OthersHaveNone, HavePortsApart, HaveNone, OnlyOneHas}
+use Rattle.terminal_ports.specs.Ports.{changed_at, is_of, owns, is_taken, HasOther, OthersHaveNone, HavePortsApart}
 
 -- ---- the line at a place
 
@@ -84,55 +86,40 @@ none-given zero (l ∷ lines) line none are =
     (λ own. absurd (let e : None ≡ Some 0 = sym none ∙ own in cc), (all-none line.port lines none, are.1.1))
 none-given (suc place) (l ∷ lines) line none are = (are.0, (none-set l.port place lines line (other-none l.port line none) are.1.0, none-given place lines line none are.1.1))
 
--- where no other line has a port, one may get any but 0
-no-others : {P : Type 0} (port : ℕ) (lines : List (LineOf P)) → HaveNone lines → OthersHaveNone (Some port) lines
-no-others port [] none = tt
-no-others port (l ∷ lines) none = (other-none (Some port) l none.0, no-others port lines none.1)
+-- a port that no line has may be given to one, where it is not 0
+free-other : (P : Type 0) (own : Option ℕ) (port : ℕ) → own ≢ Some port → HasOther {P = P} own (unconnected (Some port))
+free-other P None port free = tt
+free-other P (Some p) port free = λ same. free (sym same)
 
-pub given-apart : {P : Type 0} (place : ℕ) (lines : List (LineOf P)) (port : ℕ) → port ≢ 0 → OnlyOneHas place lines → HavePortsApart lines
+pub free-apart : {P : Type 0} (place : ℕ) (lines : List (LineOf P)) (port : ℕ) → port ≢ 0 → OthersHaveNone (Some port) lines → HavePortsApart lines
     → HavePortsApart (slice_set lines place (unconnected (Some port)))
-given-apart place [] port some none are = tt
-given-apart zero (l ∷ lines) port some none are = (λ own. some (same_Some port 0 own), (no-others port lines none, are.1.1))
-given-apart (suc place) (l ∷ lines) port some none are =
-    (are.0, (all-none l.port (slice_set lines place (unconnected (Some port))) none.0, given-apart place lines port some none.1 are.1.1))
+free-apart place [] port some free are = tt
+free-apart zero (l ∷ lines) port some free are = (λ own. some (same_Some port 0 own), (free.1, are.1.1))
+free-apart {P} (suc place) (l ∷ lines) port some free are =
+    (are.0, (none-set l.port place lines (unconnected (Some port)) (free-other P l.port port free.0) are.1.0, free-apart place lines port some free.1 are.1.1))
 
--- ---- where one line has a port at the most
+-- what the test of a port tells
+other-than : (port : ℕ) (own : Option ℕ) → is_of port own ≡ false → own ≢ Some port
+other-than port own is same = false≢true (sym (subst (λ (o : Option ℕ). is_of port o ≡ false) same is) ∙ eq-eqb port port refl)
 
-none-same : {P Q : Type 0} (lines : List (LineOf P)) (others : List (LineOf Q)) → ports others ≡ ports lines → HaveNone lines → HaveNone others
-none-same [] [] same none = tt
-none-same [] (k ∷ others) same none = absurd (cc)
-none-same (l ∷ lines) [] same none = absurd (cc)
-none-same (l ∷ lines) (k ∷ others) same none =
+pub untaken : {P : Type 0} (port : ℕ) (lines : List (LineOf P)) → is_taken port lines ≡ false → OthersHaveNone (Some port) lines
+unfolding is_taken
+untaken port [] is = tt
+untaken port (l ∷ lines) is =
+    let two = or_parts (owns port l) (list_any (owns port) lines) is in
+    (other-than port l.port two.0, untaken port lines two.1)
+
+-- it is the same of lines with the same ports
+pub taken-by : {P Q : Type 0} (port : ℕ) (lines : List (LineOf P)) (others : List (LineOf Q)) → ports others ≡ ports lines → is_taken port others ≡ is_taken port lines
+unfolding is_taken
+taken-by port [] [] same = refl
+taken-by port [] (k ∷ others) same = absurd (cc)
+taken-by port (l ∷ lines) [] same = absurd (cc)
+taken-by port (l ∷ lines) (k ∷ others) same =
     let is : k.port ≡ l.port = cc in
     let more : ports others ≡ ports lines = cc in
-    (is ∙ none.0, none-same lines others more none.1)
-
-pub only-by : {P Q : Type 0} (place : ℕ) (lines : List (LineOf P)) (others : List (LineOf Q)) → ports others ≡ ports lines → OnlyOneHas place lines → OnlyOneHas place others
-only-by place [] [] same only = tt
-only-by place [] (k ∷ others) same only = absurd (cc)
-only-by place (l ∷ lines) [] same only = absurd (cc)
-only-by zero (l ∷ lines) (k ∷ others) same only = let more : ports others ≡ ports lines = cc in none-same lines others more only
-only-by (suc place) (l ∷ lines) (k ∷ others) same only =
-    let is : k.port ≡ l.port = cc in
-    let more : ports others ≡ ports lines = cc in
-    (is ∙ only.0, only-by place lines others more only.1)
-
-pub only-set : {P : Type 0} (place : ℕ) (lines : List (LineOf P)) (after : LineOf P) → OnlyOneHas place lines → OnlyOneHas place (slice_set lines place after)
-only-set place [] after only = tt
-only-set zero (l ∷ lines) after only = only
-only-set (suc place) (l ∷ lines) after only = (only.0, only-set place lines after only.1)
-
-none-set-none : {P : Type 0} (place : ℕ) (lines : List (LineOf P)) (after : LineOf P) → after.port ≡ None → HaveNone lines → HaveNone (slice_set lines place after)
-none-set-none place [] after free none = tt
-none-set-none zero (l ∷ lines) after free none = (free, none.1)
-none-set-none (suc place) (l ∷ lines) after free none = (none.0, none-set-none place lines after free none.1)
-
-pub only-closed : {P : Type 0} (place q : ℕ) (lines : List (LineOf P)) (after : LineOf P) → after.port ≡ None → OnlyOneHas q lines → OnlyOneHas q (slice_set lines place after)
-only-closed place q [] after free only = tt
-only-closed zero zero (l ∷ lines) after free only = only
-only-closed (suc place) zero (l ∷ lines) after free only = none-set-none place lines after free only
-only-closed zero (suc q) (l ∷ lines) after free only = (free, only.1)
-only-closed (suc place) (suc q) (l ∷ lines) after free only = (only.0, only-closed place q lines after free only.1)
+    let rest = taken-by port lines others more in
+    (λ i. is_of port (is i) || rest i)
 
 -- a line that keeps its port
 same-port : {P : Type 0} (lines : List (LineOf P)) (place : ℕ) (line after : LineOf P) → slice_get lines place ≡ Some line → after.port ≡ line.port

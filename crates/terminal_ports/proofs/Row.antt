@@ -9,7 +9,7 @@ use Rattle.terminal_ports.specs.Listening.{rising, IsListening, listens_each, gi
 
 -- ---- the ports of a row
 
-row-none : (n port : ℕ) → n ≡ 0 → rising n port ≡ []
+pub row-none : (n port : ℕ) → n ≡ 0 → rising n port ≡ []
 unfolding rising
 row-none zero port none = refl
 row-none (suc n) port none = absurd (omega (arith, none))
@@ -21,7 +21,7 @@ row-more (suc n) m port next is one =
     let same : n ≡ m = omega (arith, is) in
     ap (λ (k : ℕ). port ∷ rising k (suc port)) same ∙ ap (λ (k : ℕ). port ∷ rising m k) (sym one)
 
-row-some : (n port : ℕ) → 0 < n → rising n port ≡ port ∷ rising (n - 1) (port + 1)
+pub row-some : (n port : ℕ) → 0 < n → rising n port ≡ port ∷ rising (n - 1) (port + 1)
 row-some n port some = row-more n (n - 1) port (port + 1) (omega (arith, some)) (omega arith)
 
 pub row-one : (port : ℕ) → rising 1 port ≡ port ∷ []

@@ -2,5 +2,7 @@
 #![tactic(auto)]
 
 pub mod listening;
+pub mod taken;
 
 pub use listening::{listen_for, listen_up};
+pub use taken::{is_taken, owns};

@@ -21,13 +21,13 @@ pub const FILES: &str = "03 00 00 00 0004 6469736B 0000000000000006
 0000000000000005 2CF24DBA5FB0A30E26E83B2AC5B9E29E1B161E5C1FA7425E73043362938B9824";
 
 /// What it has behind its files: no port, and nothing that is watched.
-const NOTHING_BEHIND: &str = "0000 0000 00 00 0000";
+const NOTHING_BEHIND: &str = "0000 0000 0000 0000 00 00 0000";
 
 /// The digest of the first state with these files.
-const FILES_DIGEST: &str = "32F6D3473482CFD259C186D591F829FECE70BF577EEC59E57A60E05BB903DC23";
+const FILES_DIGEST: &str = "02291ABDAFDE7D847827ED3DE5F66AB25382DECBA8EAC93CCA7B0BCB63F95B40";
 
 /// What the first state has behind its agenda.
-const NO_FILES: &str = "00 0000 0000 00 00 0000";
+const NO_FILES: &str = "00 0000 0000 0000 0000 00 00 0000";
 
 /// Adds the bytes of a text.
 pub fn add_bytes(alloc: Global, out: &mut Vec<u8>, text: &str) -> Result<(), AllocError> {

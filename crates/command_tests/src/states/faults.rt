@@ -1,7 +1,9 @@
 // Fields that hold what they cannot hold, each alone, and the one fault of each.
 use crate::checked::check;
 use crate::states::pieces::fault_in_pieces;
-use crate::states::texts::{BUSY, BUSY_DIGEST, both_of, equal, number};
+use crate::states::texts::{
+    BUSY, BUSY_DIGEST, BUSY1, BUSY1_DIGEST, FULL, FULL_DIGEST, both_of, equal, number,
+};
 use state_file::{StateFault, read_state};
 use std::alloc::{AllocError, Global};
 use std::process::Abort;
@@ -38,11 +40,98 @@ fn put_at(bytes: &mut Vec<u8>, place: usize, new: &[u8]) {
     }
 }
 
-// What is wrong, the place and the bytes that are put there, and the fault.
+// What is wrong, the place and the bytes that are put there, and the fault: of the busy state, of the one with the
+// multiplexer, and of the one in the first version.
 const FIELDS: &str = "another first byte | 0=4D | none
 another last byte of the first eight | 7=58 | none
 version 0 | 8=0000 | version:0
-version 2 | 8=0002 | version:2
+version 3 | 8=0003 | version:3
+version 256 | 8=0100 | version:256
+3K | 10=03 | field:10
+0K | 10=00 | field:10
+36K | 10=24 | field:10
+30K | 10=1E | field:10
+Carry 2 | 19=02 | field:19
+PC past memory | 20=8000 | field:20
+ION 2 | 22=02 | field:22
+HOLD 255 | 23=FF | field:23
+STOP_DEV 2 | 28=02 | field:28
+a flag of the auto-index rule that is 2 | 29=02 | field:29
+a time past the last | 30=1000000000000001 | field:30
+too many keys | 38=0000000000010001 | field:38
+nine units | 8238=09 | field:8238
+twelve units | 8238=0C | field:8238
+a tape first | 8239=01 | field:8239
+PTP twice | 8421=04 | field:8421
+a register too few | 8240=07 | field:8240
+a register too many | 8490=05 | field:8490
+BUSY 2 | 8241=00000002 | field:8241
+TIME 0 | 8253=00000000 | field:8253
+TIME 65536 | 8445=00010000 | field:8445
+DA past the last sector | 8257=00002000 | field:8257
+POS7 past the last place | 8339=04000001 | field:8339
+SEL 4 | 8431=00000004 | field:8431
+the top bit of a register | 8503=80000000 | field:8503
+82 events | 8507=0052 | field:8507
+65535 events | 8507=FFFF | field:8507
+an event of a unit that is not there | 8509=0A | field:8509
+a second TTO | 8510=01 | field:8510
+drive 8 | 8516=08 | field:8516
+a drive twice | 8522=02 | field:8522
+an event before the last one | 8517=00000002 | field:8517
+a file of the clock | 8534=05 | field:8534
+a file of a unit that is not there | 8534=0B | field:8534
+a position that falls | 8684=00 | field:8684
+a second disk | 8535=01 | field:8535
+the disk twice | 8587=00 | field:8588
+drive 9 | 8588=09 | field:8588
+a drive out of order | 8634=00 | field:8634
+read only 2 | 8536=02 | field:8536
+a printer that is read only | 8686=01 | field:8686
+no name | 8537=0000 | field:8537
+a name of 256 bytes | 8537=0100 | field:8537
+a name that is no text | 8542=FF | field:8539
+a name that is cut within a character | 8639=2E | field:8638
+a disk that is too long | 8547=0000000000400001 | field:8547
+a tape that is too long | 8644=0000000004000001 | field:8644
+a reader that is too long | 8743=0000000001000001 | field:8743
+257 breaks | 8789=0101 | field:8789
+a break past memory | 8791=8000 | field:8791
+an address twice | 8799=0000 | field:8799
+addresses out of order | 8812=0001 | field:8812
+actions of 513 bytes | 8805=0201 | field:8805
+actions of two lines | 8811=0A | field:8807
+65 texts | 8831=41 | field:8831
+a text that is waited for no more | 8832=00000000 | field:8832
+an empty text | 8836=00 | field:8836
+a text of 65 bytes | 8836=41 | field:8836
+actions of a text that are two lines | 8856=0A | field:8856
+65 printed bytes | 8864=41 | field:8864
+4097 bytes to be sent | 8868=1001 | field:8868
+a time before the last one | 8879=000000000000025B | field:8879
+a time of sending past the last | 8888=4000000000000001 | field:8888
+an event of QTY, which is not there | 8509=0A | field:8509
+a port of QTY, which is not there | 8785=0001 | field:8785
+the port of the console is that of TTI1 | 8787=0913 | field:8787";
+
+const FULL_FIELDS: &str = "QTY at another place | 8507=09 | field:8507
+a register of QTY too few | 8508=82 | field:8508
+BUSY of QTY 2 | 8509=00000002 | field:8509
+TIME of QTY 0 | 8517=00000000 | field:8517
+RX0 past its largest | 8521=00000200 | field:8521
+TX63 past its largest | 9029=00000400 | field:9029
+line 64 of QTY | 9060=40 | field:9060
+an event of the twelfth unit | 9059=0B | field:9059
+a first port of QTY past the last | 9317=FFC1 | field:9317
+the port of TTI1 is the first of QTY | 9315=1388 | field:9317
+the port of TTI1 is the last of QTY | 9315=13C7 | field:9317
+the port of the console is that of TTI1 | 9319=0913 | field:9319
+the port of the console is the first of QTY | 9319=1388 | field:9319
+the port of the console is the last of QTY | 9319=13C7 | field:9319";
+
+const FIRST_VERSION_FIELDS: &str = "another first byte | 0=4D | none
+another last byte of the first eight | 7=58 | none
+version 0 | 8=0000 | version:0
 version 256 | 8=0100 | version:256
 3K | 10=03 | field:10
 0K | 10=00 | field:10
@@ -107,11 +196,19 @@ actions of a text that are two lines | 8851=0A | field:8851
 a time before the last one | 8874=000000000000025B | field:8874
 a time of sending past the last | 8883=4000000000000001 | field:8883";
 
-fn has_fault(rt: &impl Abort, alloc: Global, line: &str) -> Result<(), AllocError> {
+/// A state and its digest, as texts.
+type Text<'a> = (&'a str, &'a str);
+
+fn has_fault(
+    rt: &impl Abort,
+    alloc: Global,
+    text: Text<'_>,
+    line: &str,
+) -> Result<(), AllocError> {
     let (_, rest) = line.split_once(" | ").unwrap_or((line, ""));
     let (change, wanted) = rest.split_once(" | ").unwrap_or((rest, ""));
     let (place, digits) = change.split_once('=').unwrap_or((change, ""));
-    let mut bytes = both_of(alloc, BUSY, BUSY_DIGEST)?;
+    let mut bytes = both_of(alloc, text.0, text.1)?;
     let new = both_of(alloc, "", digits)?;
     put_at(&mut bytes, number(place), &new);
     has_the_fault(rt, alloc, &bytes, fault_of(wanted), line);
@@ -126,7 +223,23 @@ fn has_the_fault(rt: &impl Abort, alloc: Global, bytes: &[u8], wanted: StateFaul
 #[test]
 fn each_field_has_its_fault_at_its_place(rt: HostRuntime) -> Result<(), Fail> {
     for line in FIELDS.split('\n') {
-        has_fault(&rt, rt.alloc(), line)?;
+        has_fault(&rt, rt.alloc(), (BUSY, BUSY_DIGEST), line)?;
+    }
+    Ok(())
+}
+
+#[test]
+fn so_has_each_of_the_multiplexer(rt: HostRuntime) -> Result<(), Fail> {
+    for line in FULL_FIELDS.split('\n') {
+        has_fault(&rt, rt.alloc(), (FULL, FULL_DIGEST), line)?;
+    }
+    Ok(())
+}
+
+#[test]
+fn so_has_each_of_the_first_version(rt: HostRuntime) -> Result<(), Fail> {
+    for line in FIRST_VERSION_FIELDS.split('\n') {
+        has_fault(&rt, rt.alloc(), (BUSY1, BUSY1_DIGEST), line)?;
     }
     Ok(())
 }

@@ -90,7 +90,7 @@ fn is_same_at_each_cut(rt: &impl Abort, alloc: Global, bytes: &[u8], wanted: &Sa
     }
 }
 
-// Of the words of memory, which stand at 45 to 8236, at some; else a piece ends in each field, and between any two.
+// Of the words of memory, which stand at 46 to 8237, at some; else a piece ends in each field, and between any two.
 #[test]
 fn a_piece_may_end_anywhere(rt: HostRuntime) -> Result<(), Fail> {
     let bytes = both_of(rt.alloc(), BUSY, BUSY_DIGEST)?;

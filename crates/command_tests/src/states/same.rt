@@ -19,7 +19,7 @@ fn same_units_and_events(found: &Saved, wanted: &Saved) -> bool {
 }
 
 fn same_outside(found: &Saved, wanted: &Saved) -> bool {
-    same_files(&found.attachments, &wanted.attachments) && found.port == wanted.port
+    same_files(&found.attachments, &wanted.attachments) && found.ports == wanted.ports
 }
 
 fn same_stops(found: &Saved, wanted: &Saved) -> bool {

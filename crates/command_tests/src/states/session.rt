@@ -148,7 +148,7 @@ const BUSY_FILES: &str = " 05 00 00 01 0008 6469736B2E696D67";
 const BUSY_PORT: &str = " 0913 ";
 
 /// The digest of the busy state with the three files, from another program.
-const BUSY_DIGEST: &str = "A35644493F78EFF80F94780E656A69492B069EA5CFE4F2F491B174113F5CE263";
+const BUSY_DIGEST: &str = "9F1B1A42197B38F2FEEC21605F5B6D404EB848AAA1EDBBC857141CF97C8A8DC2";
 
 /// The busy state with the three files in place of its own.
 fn busy_text(alloc: Global) -> Result<Vec<u8>, AllocError> {

@@ -1,6 +1,8 @@
 // States that are read, and written again.
 use crate::checked::check;
-use crate::states::texts::{BUSY, BUSY_DIGEST, FIRST, FIRST_DIGEST, both_of, equal};
+use crate::states::texts::{
+    BUSY, BUSY_DIGEST, FIRST, FIRST1, FIRST1_DIGEST, FIRST_DIGEST, FULL, FULL_DIGEST, both_of, equal,
+};
 use state_file::{Saved, SavedCpu, SavedEvent, SavedSend, StateFault, read_state, write_state};
 use std::alloc::Global;
 use std::process::Abort;
@@ -24,7 +26,7 @@ fn is_written_again(rt: &impl Abort, alloc: Global, bytes: &[u8], line: &str) {
 #[test]
 fn the_first_state_is_written_as_it_was_read(rt: HostRuntime) -> Result<(), Fail> {
     let bytes = both_of(rt.alloc(), FIRST, FIRST_DIGEST)?;
-    equal(&rt, &bytes.len(), &65905, "the length");
+    equal(&rt, &bytes.len(), &65910, "the length");
     is_written_again(&rt, rt.alloc(), &bytes, "the first");
     Ok(())
 }
@@ -41,6 +43,7 @@ fn has_its_cpu(rt: &impl Abort, cpu: &SavedCpu) {
     equal(rt, &cpu.size_k, &4, "size");
     check(rt, cpu.acs == [1, 2, 3, 65535], "accumulators");
     equal(rt, &cpu.pc, &0o100, "PC");
+    equal(rt, &cpu.autobit, &1, "the flag of the auto-index rule");
     equal(rt, &cpu.time, &604, "time");
 }
 
@@ -71,7 +74,7 @@ fn has_its_machine(rt: &impl Abort, saved: &Saved) {
 /// What the busy state has beside its machine.
 fn has_its_lists(rt: &impl Abort, saved: &Saved) {
     equal(rt, &saved.attachments.len(), &5, "files");
-    equal(rt, &saved.port, &2323, "port");
+    equal(rt, &saved.ports.tti1, &2323, "port");
     equal(rt, &saved.breaks.len(), &3, "breaks");
     equal(rt, &saved.expects.len(), &2, "texts");
 }
@@ -114,6 +117,30 @@ fn a_busy_state_says_what_it_holds(rt: HostRuntime) -> Result<(), Fail> {
     let bytes = both_of(rt.alloc(), BUSY, BUSY_DIGEST)?;
     match read_state(rt.alloc(), &bytes) {
         Ok(saved) => has_all(&rt, &saved),
+        Err(_) => check(&rt, false, "it is read"),
+    }
+    Ok(())
+}
+
+#[test]
+fn a_state_with_the_multiplexer_is_written_as_it_was_read(rt: HostRuntime) -> Result<(), Fail> {
+    let bytes = both_of(rt.alloc(), FULL, FULL_DIGEST)?;
+    is_written_again(&rt, rt.alloc(), &bytes, "the full one");
+    Ok(())
+}
+
+/// The bytes of what is read, written again.
+fn written_again(alloc: Global, bytes: &[u8]) -> Result<Vec<u8>, StateFault> {
+    let saved = read_state(alloc, bytes)?;
+    Ok(write_state(alloc, &saved)?)
+}
+
+#[test]
+fn the_first_version_is_read_and_written_in_the_second(rt: HostRuntime) -> Result<(), Fail> {
+    let old = both_of(rt.alloc(), FIRST1, FIRST1_DIGEST)?;
+    let new = both_of(rt.alloc(), FIRST, FIRST_DIGEST)?;
+    match written_again(rt.alloc(), &old) {
+        Ok(bytes) => check(&rt, bytes.as_slice() == new.as_slice(), "the same state"),
         Err(_) => check(&rt, false, "it is read"),
     }
     Ok(())

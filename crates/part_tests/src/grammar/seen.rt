@@ -53,6 +53,8 @@ pub fn seen(verb: &Verb) -> (&'static str, Numbers) {
         Verb::Show(subject) => shown(subject),
         Verb::Exit(status) => ("Exit", one(*status)),
         Verb::SetSize(size) => ("SetSize", one(Some(*size))),
+        Verb::SetAutobit(true) => ("SetAutobitBefore", NONE),
+        Verb::SetAutobit(false) => ("SetAutobitAfter", NONE),
         Verb::Disconnect(kind) => ("Disconnect", one(code(*kind))),
         _ => seen_of_watches(verb),
     }

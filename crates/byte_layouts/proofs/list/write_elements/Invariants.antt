@@ -6,4 +6,4 @@ use Rattle.byte_layouts.proofs.list.write_elements.Given as goal
 
 abbrev pub invariant-loop-item : goal.invariant-loop-item
 invariant-loop-item g l =
-    l.out.items ≡ l.fn.out.items ++ flat_map (text (g.R.Format.layout [])) (map g.R.Format.view (take l.item-index l.items))
+    l.out.items ≡ l.fn.out.items ++ flat_map (text (g.R.Format.layout l.known [])) (map g.R.Format.view (take l.item-index l.items))

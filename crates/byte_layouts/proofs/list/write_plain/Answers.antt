@@ -4,4 +4,4 @@ use Rattle.byte_layouts.proofs.WriteLaws.{all_fit}
 use Rattle.byte_layouts.proofs.list.write_plain.Goals as goal
 
 pub write_elements-requires : goal.write_elements-requires
-write_elements-requires g c = all_fit (λ front. Fits (g.R.Format.layout front)) (λ front x. g.met.R.Plain.always_fits front x) [] (map g.R.Format.view c.args.items.now)
+write_elements-requires g c = all_fit (λ front. Fits (g.R.Format.layout c.args.known front)) (λ front x. g.met.R.Plain.always_fits c.args.known front x) [] (map g.R.Format.view c.args.items.now)

@@ -1,6 +1,6 @@
 use Rattle.std.proofs.Common.{refl, ap, sym, true, ◌∙◌, subst, Ok, ◌≡◌}
 use Rattle.unit_list.specs.Bus.{kinds_of}
-use Rattle.scp_parser.specs.Command.{Request, Examine, Deposit, request_of, Nothing, Reset, SetSize, Show, Assert, Echo, given_text, Break, NoBreak, Expect, NoExpect, Send, NoSend}
+use Rattle.scp_parser.specs.Command.{Request, Examine, Deposit, request_of, Nothing, Reset, SetSize, SetAutobit, Show, Assert, Echo, given_text, Break, NoBreak, Expect, NoExpect, Send, NoSend}
 use Rattle.nova_machine.specs.Comes.{output}
 use Rattle.nova_machine.specs.Machine.{attached_files, reset_machine}
 use Rattle.command_session.specs.declared.next.Next.TheVariants.{Go}
@@ -74,6 +74,14 @@ returns-in-SetSize-clause-told g c = λ files heard.
     does-by (live_in s files) c.args.command.now (SetSize what.k) c.set_size.result (standing 0 (live_in c.set_size.new.session files)) g.S.Sink.tells text text
     (sym c.command.view_is ∙ ap (request_of _) c.in-SetSize.is) (c.set_size.ensures.told files g.S.Sink.tells text)
 
+pub returns-in-SetAutobit-clause-told : goal.returns-in-SetAutobit-clause-told
+returns-in-SetAutobit-clause-told g c = λ files heard.
+    let s = c.args.session.now in
+    let what = c.in-SetAutobit in
+    let text = output (g.S.Sink.written c.args.out.now) heard in
+    does-by (live_in s files) c.args.command.now (SetAutobit what.before) c.set_autobit.result (standing 0 (live_in c.set_autobit.new.session files)) g.S.Sink.tells text text
+    (sym c.command.view_is ∙ ap (request_of _) c.in-SetAutobit.is) (c.set_autobit.ensures.told files g.S.Sink.tells text)
+
 pub returns-in-Break-clause-told : goal.returns-in-Break-clause-told
 returns-in-Break-clause-told g c = λ files heard.
     let s = c.args.session.now in
@@ -138,6 +146,9 @@ returns-in-Deposit-clause-rest g c = machine-rest c.args.session.now c.deposit_l
 
 pub returns-in-SetSize-clause-rest : goal.returns-in-SetSize-clause-rest
 returns-in-SetSize-clause-rest g c = machine-rest c.args.session.now c.set_size.new.session c.set_size.new.session.machine c.set_size.ensures.rest
+
+pub returns-in-SetAutobit-clause-rest : goal.returns-in-SetAutobit-clause-rest
+returns-in-SetAutobit-clause-rest g c = machine-rest c.args.session.now c.set_autobit.new.session c.set_autobit.new.session.machine c.set_autobit.ensures.rest
 
 pub returns-in-Reset-clause-rest : goal.returns-in-Reset-clause-rest
 returns-in-Reset-clause-rest g c = machine-rest c.args.session.now c.reset.new.session (reset_machine c.args.session.now.machine) c.reset.ensures.rest

@@ -12,7 +12,9 @@ use Rattle.nova_machine.specs.Machine.{MachineState, attached_files}
 use Rattle.nova_machine.specs.Seen.{seen, beside}
 use Rattle.unit_files.specs.Attachments.{no_attachments}
 use Rattle.unit_files.specs.InStep.{InStep}
-use Rattle.state_transfer.specs.Listening.{wants_port, LeavesLines}
+use Rattle.saved_session.specs.Ranges.{has_multiplexer}
+use Rattle.state_transfer.specs.Ports.{ports_wanted}
+use Rattle.state_transfer.specs.Listening.{LeavesLines}
 use Rattle.saved_session.specs.Parts.{state_in}
 use Rattle.state_transfer.specs.Putting.{with_machine_of}
 use Rattle.telnet_lines.specs.Line.{LineOf}
@@ -185,7 +187,8 @@ returns-in-Ok-set_state-clause-told g c = λ told telling apart whole first tell
     let used = length (own_both subject.State s.machine.time 0 w.failed w.closing) in
     let none : first_refused None c.args.force st.files no_attachments before.files ≡ None =
     ap (λ (l : List NamedBytes). first_refused None c.args.force st.files no_attachments l) (sym (c.read_state_file-read.ensures.files told)) ∙ set.told told in
-    let left : LeavesLines true st.port s.machine.lines (Ok tt) ports ports' = subst (λ (b : Bool). LeavesLines b st.port s.machine.lines (Ok tt) ports ports') telling set.lines in
+    let left : LeavesLines true (ports_wanted st.ports s.machine.lines) (Ok tt) ports ports' =
+    subst (λ (b : Bool). LeavesLines b (ports_wanted st.ports s.machine.lines) (Ok tt) ports ports') telling set.lines in
     let back : new ≡ record (put_back st live) { ahead = ahead_of ports'.told whole } =
     set.back told s.keys (c.is_occupied.ensures.closed c.if-is_occupied.false) refl whole
     ∙ ap (λ (l : List NamedBytes). record (put_back st (seen (beside s.watch s.keys l ports) whole s.machine)) { ahead = ahead_of ports'.told whole }) (c.read_state_file-read.ensures.files told) in
@@ -193,10 +196,10 @@ returns-in-Ok-set_state-clause-told g c = λ told telling apart whole first tell
     (back-did live c.args.force c.args.name.now w (occupied-seen ports s.machine ∙ sym c.is_occupied.ensures.test ∙ c.if-is_occupied.false) s.command tells out
     s.notes.items c.note_state_reading.new.notes.items (bytes_of before.files c.args.name.now) st
     (c.in-Ok-saved_in.ensures.exact (bytes_of before.files c.args.name.now) (fed_with c.args.name.now before.files c.read_state_file-read.result c.in-Ok.reader c.in-Ok.ensures.reader (c.read_state_file-read.ensures.said told)))
-    (says_read c.args.name.now before.files c.read_state_file-read.result c.in-Ok.reader c.in-Ok.ensures.reader (c.read_state_file-read.ensures.said told))
+    (says_read c.args.name.now before.files c.read_state_file-read.result c.in-Ok.reader c.in-Ok.ensures.reader (c.read_state_file-read.ensures.said told)) set.missing
     (Ok Go) new new tt
     (ap (λ (o : Option (UnitName × FileRefusal)). restored_by o used st live) none
-    ∙ back-ends used st live new ports ports' whole s.machine.lines refl refl (wants_port st.port s.machine.lines) refl left first back)
+    ∙ back-ends used st live new ports ports' whole s.machine.lines refl refl left first back)
     refl
     (c.note_state_reading.ensures.notes ∙ ap (λ (t : Stamp). s.notes.items ++ read_notes subject.State t w) stamped))
 
@@ -205,7 +208,8 @@ returns-in-Ok-set_state-clause-left g c =
     let s = c.session.inside in
     let set = c.in-Ok-set_state.ensures in
     rw (← c.session.view_is)
-    (restore-done g.L.Lines.tells c.in-Ok-saved_in.saved.port s.machine.lines c.set_state.new.machine.lines (g.L.Lines.state c.args.lines.now) (g.L.Lines.state c.set_state.new.lines)
+    (restore-done g.L.Lines.tells (has_multiplexer (length (state_in c.in-Ok-saved_in.saved).machine.units)) c.in-Ok-saved_in.saved.ports s.machine.lines c.set_state.new.machine.lines
+    (g.L.Lines.state c.args.lines.now) (g.L.Lines.state c.set_state.new.lines) c.in-Ok-saved_in.ensures.valid.ports (c.is_occupied.ensures.there c.if-is_occupied.false)
     (c.is_occupied.ensures.closed c.if-is_occupied.false) set.lines set.ports)
 
 pub returns-in-Ok-set_state-clause-keeps : goal.returns-in-Ok-set_state-clause-keeps
@@ -248,6 +252,7 @@ returns-in-Ok-set_state-clause-back g c =
       valid = c.in-Ok-saved_in.ensures.valid;
       read = λ told. c.in-Ok-saved_in.ensures.exact (bytes_of before c.args.name.now)
           (fed_with c.args.name.now before c.read_state_file-read.result c.in-Ok.reader c.in-Ok.ensures.reader (c.read_state_file-read.ensures.said told));
+      found = set.missing;
       machine = subst (λ (lines : List (LineOf ℕ)). c.set_state.new.machine ≡ record (with_machine_of s.machine (state_in c.in-Ok-saved_in.saved).machine) {
         slots = c.set_state.new.machine.slots;
         disk = c.set_state.new.machine.disk;
@@ -274,13 +279,14 @@ returns-clause-told g c = λ told telling apart whole first tells out.
     let st = state_in c.in-Ok-saved_in.saved in
     let live = seen (beside s.watch s.keys before.files ports) whole s.machine in
     let stamped = c.stamp_of-stamp.ensures ∙ ap stamp_in (sym c.session.view_is) in
-    let left : LeavesLines true st.port s.machine.lines (Err fault) ports ports' = subst (λ (b : Bool). LeavesLines b st.port s.machine.lines (Err fault) ports ports') telling set.lines in
+    let left : LeavesLines true (ports_wanted st.ports s.machine.lines) (Err fault) ports ports' =
+    subst (λ (b : Bool). LeavesLines b (ports_wanted st.ports s.machine.lines) (Err fault) ports ports') telling set.lines in
     rw (← c.session.view_is)
     (refused-by live (seen (beside c.set_state.new.watch s.keys after.files ports') whole c.set_state.new.machine) c.args.force c.args.name.now w s.command tells out
     s.notes.items c.note_restoring.new.notes.items (bytes_of before.files c.args.name.now) st fault (Err c.fault_of_restore.result) ports ports' whole s.machine.lines
     (occupied-seen ports s.machine ∙ sym c.is_occupied.ensures.test ∙ c.if-is_occupied.false)
     (c.in-Ok-saved_in.ensures.exact (bytes_of before.files c.args.name.now) (fed_with c.args.name.now before.files c.read_state_file-read.result c.in-Ok.reader c.in-Ok.ensures.reader (c.read_state_file-read.ensures.said told)))
-    (says_read c.args.name.now before.files c.read_state_file-read.result c.in-Ok.reader c.in-Ok.ensures.reader (c.read_state_file-read.ensures.said told)) refl refl
+    (says_read c.args.name.now before.files c.read_state_file-read.result c.in-Ok.reader c.in-Ok.ensures.reader (c.read_state_file-read.ensures.said told)) refl refl set.missing
     (subst (λ (l : List NamedBytes). SaysFirst (Err fault) (first_refused (claim_in (Err fault)) c.args.force st.files no_attachments l)) (c.read_state_file-read.ensures.files told) (set.told told))
     left first
     ((λ i. seen (beside (set.unwatched i) s.keys ((set.files told ∙ c.read_state_file-read.ensures.files told) i) ports') whole (set.refused i)))
@@ -293,8 +299,8 @@ returns-clause-left g c =
     let s = c.session.inside in
     let set = c.in-Err-set_state.ensures in
     rw (← c.session.view_is)
-    (restore-refused g.L.Lines.tells c.in-Ok-saved_in.saved.port s.machine.lines c.set_state.new.machine.lines c.in-Err-set_state.fault (g.L.Lines.state c.args.lines.now)
-    (g.L.Lines.state c.set_state.new.lines) set.lines (ap (λ (m : MachineState). m.lines) set.refused))
+    (restore-refused g.L.Lines.tells (ports_wanted c.in-Ok-saved_in.saved.ports s.machine.lines) s.machine.lines c.set_state.new.machine.lines c.in-Err-set_state.fault (g.L.Lines.state c.args.lines.now)
+    (g.L.Lines.state c.set_state.new.lines) (c.is_occupied.ensures.closed c.if-is_occupied.false) set.lines (ap (λ (m : MachineState). m.lines) set.refused))
 
 pub returns-clause-unasked : goal.returns-clause-unasked
 returns-clause-unasked g c = λ refused never.

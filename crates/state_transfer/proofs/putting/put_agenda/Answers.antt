@@ -1,6 +1,6 @@
 use Rattle.std.proofs.Common.{ap, sym, get_or, subst, ◌∙◌}
 use Rattle.std.proofs.lemmas.List.Elements.{All-from_recursion}
-use Rattle.std.specs.Prelude.{IsTrue, List, [], is_some}
+use Rattle.std.specs.Prelude.{IsTrue, List, [], length, is_some}
 use Rattle.unit_trait.specs.Kinds.{code_of}
 use Rattle.unit_trait.specs.Calls.{UnitState}
 use Rattle.unit_list.specs.Bus.{unit_at}
@@ -9,13 +9,13 @@ use Rattle.event_queue.specs.Agenda.{asked_in_order}
 use Rattle.nova_machine.specs.Machine.{MachineState}
 use Rattle.saved_session.specs.declared.saved.SavedEvent.{SavedEvent}
 use Rattle.saved_session.specs.Ranges.{kind_at}
-use Rattle.state_transfer.proofs.PuttingLemmas.{CanWait, events_said, each-waits, events-stand, event-more, events-end, events-alone, unit-there}
+use Rattle.state_transfer.proofs.PuttingLemmas.{CanWait, events_said, each-waits, events-stand, event-more, events-end, events-alone, few-units, unit-there}
 use Rattle.state_transfer.proofs.putting.put_agenda.Goals as goal
 
 pub loop-event-init : goal.loop-event-init
 loop-event-init g c = record {
   rest = ap (λ (m : MachineState). asked_in_order m.events (events_said c.args.agenda.now)) c.clear_events.ensures
-      ∙ events-stand c.args.agenda.now c.requires.valid;
+      ∙ events-stand (length c.args.machine.now.units) c.args.agenda.now (few-units c.args.machine.now.units c.requires.standard) c.requires.valid;
   others = c.clear_events.ensures ∙ sym (ap (λ (m : MachineState). record c.args.machine.now { events = m.events }) c.clear_events.ensures);
 }
 
@@ -25,8 +25,9 @@ none = record { position = 0; unit = 0; remaining = 0 }
 pub put_event-requires : goal.put_event-requires
 unfolding none
 put_event-requires g c =
-    let can : CanWait (get_or c.args.agenda.now c.loop-event.event-index none) =
-    All-from_recursion CanWait c.args.agenda.now (each-waits [] c.args.agenda.now c.requires.valid)
+    let many = length c.args.machine.now.units in
+    let can : CanWait many (get_or c.args.agenda.now c.loop-event.event-index none) =
+    All-from_recursion (CanWait many) c.args.agenda.now (each-waits many [] c.args.agenda.now c.requires.valid)
     c.loop-event.event-index none c.loop-event-test.true in
     record {
       number = can.number;

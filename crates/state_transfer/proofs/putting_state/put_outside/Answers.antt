@@ -3,16 +3,18 @@ use Rattle.std.proofs.lemmas.Result.{err_from_is_err_and}
 use Rattle.std.specs.List.{AllByRecursion}
 use Rattle.unit_files.specs.Attachments.{held_at}
 use Rattle.unit_files.specs.Buffer.{AttachedFiles, nothing_attached}
+use Rattle.unit_files.specs.Causes.{AreFrom}
 use Rattle.unit_files.specs.Open.{Around}
 use Rattle.nova_machine.specs.Machine.{MachineState, attached_files, with_attached_files}
 use Rattle.saved_session.specs.declared.saved.SavedFile.{SavedFile}
 use Rattle.saved_files.specs.GivingBack.{OnlyTheirCounts}
 use Rattle.saved_session.specs.Parts.{state_in}
+use Rattle.state_transfer.specs.Ports.{ports_wanted}
 use Rattle.saved_session.specs.Order.{place_of}
 use Rattle.saved_files.specs.Putting.{files_in, IsOfThese}
 use Rattle.saved_files.specs.PuttingOne.{CanAttach, AreApart}
 use Rattle.saved_files.proofs.GivingBackLemmas.{given-back}
-use Rattle.state_transfer.proofs.PortLemmas.{these-of-session, no-listening, port-of-session, no-port, port-compared, port-cause, port-counts, port-unopened}
+use Rattle.state_transfer.proofs.PortLemmas.{these-of-session, no-listening, these-found, port-of-session, no-port, port-found, port-compared, port-cause, port-counts, port-unopened, multiplexer-low}
 use Rattle.saved_files.proofs.PuttingCounts.{new-counts-behind-all, session-cause}
 use Rattle.saved_files.proofs.Together.{all-free, only-base}
 use Rattle.saved_files.proofs.ValidFiles.{each-can, all-apart}
@@ -83,9 +85,26 @@ returns-in_err-attach_all-clause-cause g c =
 pub returns-in_err-attach_all-clause-lines : goal.returns-in_err-attach_all-clause-lines
 returns-in_err-attach_all-clause-lines g c =
     let p = err_from_is_err_and c.from_residual.result c.from_residual.ensures.1 in
-    rw (p.1, p.2) (no-listening g.L.Lines.tells c.args.saved.now.port c.args.machine.now.lines
+    rw (p.1, p.2) (no-listening g.L.Lines.tells (ports_wanted c.args.saved.now.ports c.args.machine.now.lines)
     (files_in c.deref.result.now) c.in_err-attach_all.field-0.0 (g.L.Lines.state c.args.lines.now)
     c.in_err-attach_all.ensures.these)
+
+pub returns-in_err-attach_all-clause-found : goal.returns-in_err-attach_all-clause-found
+returns-in_err-attach_all-clause-found g c =
+    let p = err_from_is_err_and c.from_residual.result c.from_residual.ensures.1 in
+    rw (p.1, p.2) (these-found (files_in c.deref.result.now) c.in_err-attach_all.field-0.0 c.in_err-attach_all.ensures.these)
+
+pub put_ports-requires : goal.put_ports-requires
+put_ports-requires g c = record {
+  range = multiplexer-low c.requires.range.0 c.args.saved.now.ports.tti1 c.args.saved.now.ports.qty c.requires.range.1.qty;
+}
+
+pub returns-in-Ok-clause-from : goal.returns-in-Ok-clause-from
+returns-in-Ok-clause-from g c = λ unit h there.
+    let state = g.F.Files.state in
+    let from = subst (λ (a : AttachedFiles). AreFrom a.slots c.attach_all.new.attached.slots (state c.args.files.now)
+    (state c.attach_all.new.files)) c.attached_mut.ensures.value c.in_ok-attach_all.ensures.from in
+    from unit h (subst (λ (m : MachineState). held_at m.slots unit ≡ Some h) c.in-Ok.ensures.ok there)
 
 pub returns-in-Ok-clause-lines : goal.returns-in-Ok-clause-lines
 returns-in-Ok-clause-lines g c = (c.in-Ok.ensures.outside, λ none. ap g.L.Lines.state (c.in-Ok.ensures.none none).1)
@@ -93,6 +112,9 @@ returns-in-Ok-clause-lines g c = (c.in-Ok.ensures.outside, λ none. ap g.L.Lines
 pub returns-in-Err-clause-these : goal.returns-in-Err-clause-these
 returns-in-Err-clause-these g c =
     port-of-session (state_in c.args.saved.now).files c.in-Err.fault c.in-Err.ensures.fault
+
+pub returns-in-Err-clause-found : goal.returns-in-Err-clause-found
+returns-in-Err-clause-found g c = port-found c.in-Err.fault c.in-Err.ensures.fault
 
 pub returns-in-Err-clause-from : goal.returns-in-Err-clause-from
 returns-in-Err-clause-from g c = λ unit h there.
@@ -120,9 +142,9 @@ returns-in-Err-clause-cause g c =
 
 pub returns-in-Err-clause-lines : goal.returns-in-Err-clause-lines
 returns-in-Err-clause-lines g c =
-    no-port g.L.Lines.tells c.args.saved.now.port c.args.machine.now.lines c.in-Err.fault
-    (g.L.Lines.state c.args.lines.now) (g.L.Lines.state c.put_port.new.lines) c.in-Err.ensures.fault
-    c.in-Err.ensures.wanted c.in-Err.ensures.outside
+    no-port g.L.Lines.tells (ports_wanted c.args.saved.now.ports c.args.machine.now.lines) c.in-Err.fault
+    (g.L.Lines.state c.args.lines.now) (g.L.Lines.state c.put_ports.new.lines) c.in-Err.ensures.fault
+    c.in-Err.ensures.outside
 
 pub returns-in-Err-clause-compared : goal.returns-in-Err-clause-compared
 returns-in-Err-clause-compared g c = port-compared c.args.force c.in-Err.fault c.in-Err.ensures.fault

@@ -6,7 +6,7 @@ use Rattle.saved_session.specs.Parts.{State, state_in}
 use Rattle.saved_files.specs.Putting.{files_in}
 use Rattle.saved_files.specs.Taking.{file_places, saved_files}
 use Rattle.saved_session.specs.Valid.{Fits}
-use Rattle.state_transfer.specs.Session.{saved_machine, saved_port}
+use Rattle.state_transfer.specs.Session.{saved_machine, saved_ports}
 use Rattle.saved_session.specs.SavedWatch.{saved_watch}
 use Rattle.state_transfer.proofs.TakenFits.{names-fit}
 use Rattle.state_transfer.proofs.TakenStates.{taken-is-saved}
@@ -31,9 +31,9 @@ returns-in-Ok-digest_all-clause-fits g c =
       watch = c.in-Ok-taken_watch.ensures.fit;
     })
 
-pub returns-in-Ok-digest_all-clause-port_part : goal.returns-in-Ok-digest_all-clause-port_part
-returns-in-Ok-digest_all-clause-port_part g c = λ lines.
-    ap (λ (s : State). s.port) c.joined.ensures ∙ c.taken_port-port.ensures lines
+pub returns-in-Ok-digest_all-clause-ports_part : goal.returns-in-Ok-digest_all-clause-ports_part
+returns-in-Ok-digest_all-clause-ports_part g c = λ lines.
+    ap (λ (s : State). s.ports) c.joined.ensures ∙ c.taken_ports-ports.ensures lines
 
 pub returns-in-Ok-digest_all-clause-told : goal.returns-in-Ok-digest_all-clause-told
 returns-in-Ok-digest_all-clause-told g c = λ t keys lines whole.
@@ -44,10 +44,10 @@ returns-in-Ok-digest_all-clause-told g c = λ t keys lines whole.
     let machine : x.machine ≡ saved_machine m =
     ap (λ (s : State). s.machine) c.joined.ensures ∙ c.in-Ok.ensures.machine in
     let watch : x.watch ≡ saved_watch c.args.watch.now = ap (λ (s : State). s.watch) c.joined.ensures ∙ c.in-Ok-taken_watch.ensures.watch in
-    let port : (l : LineState) → x.port ≡ saved_port (map (seen_line l) m.lines) =
-    λ l. ap (λ (s : State). s.port) c.joined.ensures ∙ c.taken_port-port.ensures l in
+    let ports : (l : LineState) → x.ports ≡ saved_ports (map (seen_line l) m.lines) =
+    λ l. ap (λ (s : State). s.ports) c.joined.ensures ∙ c.taken_ports-ports.ensures l in
     let here : x.files ≡ saved_files files (attachments_of c.digest_all.new.attached.slots) file_places =
     ap (λ (s : State). s.files) c.joined.ensures ∙ digested.told t
     ∙ ap (λ (slots : List (Option Held)). saved_files files (attachments_of slots) file_places) (sym digested.slots) in
     taken-is-saved x m c.digest_all.new.attached c.args.watch.now files keys lines whole
-    (record { machine = machine; files_are = here; port = port; watch = watch })
+    (record { machine = machine; files_are = here; ports = ports; watch = watch })

@@ -1,0 +1,16 @@
+use Rattle.std.proofs.Common.{ℕ, ◌<◌, List, ap, sym, ◌∙◌, rules}
+use Rattle.telnet_lines.specs.Line.{LineOf}
+use Rattle.nova_machine.specs.Machine.{MachineState, place_of as line_place}
+use Rattle.state_transfer.proofs.RowLemmas.{none-put, one-more}
+use Rattle.state_transfer.proofs.putting_ports.+put_row.Goals as goal
+
+pub returns-then-count-eq0 : goal.returns-then-count-eq0
+returns-then-count-eq0 g t c =
+    ap (λ (lines : List (LineOf ℕ)). record c.args.machine.now { lines = lines })
+    (none-put c.args.count (line_place c.args.number) c.args.port c.args.machine.now.lines c.if-count-eq0.true)
+
+pub returns : goal.returns
+returns g t c =
+    let some : 0 < c.args.count = search rules in
+    c.put_row.ensures
+    ∙ one-more c.args.machine.now c.put_one.new.machine c.args.count c.args.number c.args.port some c.put_one.ensures
