@@ -59,11 +59,12 @@ use whole_files::WholeFault;
 /// had. It prints nothing, and resets nothing. The file may be one of this version or of the first one.
 ///
 /// The refusals, in this order: `AlreadyAttached` where a unit has a file or a line a port, that of the console too;
-/// `NoFile`, `FileFailed` and `FileTooLong` of the state file, which has at most 1048576 bytes; the faults of its bytes;
-/// `MissingUnit` where the machine lacks a unit of the session, before the file of any unit is opened; then of each file
-/// `NoFile`, `FileFailed` of its opening or its length, `FileTooLong`, `FileFailed` of a read, and `Changed`; and last
-/// `PortFailed`, of the first port that is not to be had. `OutOfMemory` may come from the reading on. Behind a refusal the session is as it was, and each file
-/// that was opened is closed. Each call that failed is noted, but for the closing of a unit's file that was refused.
+/// `NoFile`, `FileFailed` and `FileTooLong` of the state file, which has at most 1048576 bytes; the faults of its
+/// bytes; `MissingUnit` where the machine lacks a unit of the session, before the file of any unit is opened; then of
+/// each file `NoFile`, `FileFailed` of its opening or its length, `FileTooLong`, `FileFailed` of a read, and `Changed`;
+/// and last `PortFailed`, of the first port that is not to be had. `OutOfMemory` may come from the reading on. Behind a
+/// refusal the session is as it was, and each file that was opened is closed. Each call that failed is noted, but for
+/// the closing of a unit's file that was refused.
 #[tactic(auto, unfolding(crate::specs::StateEffects::restore_reply))]
 pub fn restore<U: Unit, F: Files, L: Lines>(
     alloc: Global,

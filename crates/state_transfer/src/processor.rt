@@ -1,5 +1,5 @@
-// The processor, with its interrupts, its switches, the rule of the auto-index locations and the clock: what is saved of
-// them is taken, and put back.
+// The processor, with its interrupts, its switches, the rule of the auto-index locations and the clock: what is saved
+// of them is taken, and put back.
 ghost use Rattle.std.specs.Prelude.{◌≡◌};
 ghost use Rattle.unit_trait.specs.Processor.{CanHold};
 ghost use Rattle.nova_machine.specs.Registers.{with_register};

@@ -173,8 +173,8 @@ fn row_of(port: u16, count: u8, there: bool) -> Row
 
 /// Gives lines the ports of a saved session, which are listened on: line 0 its own, then lines 1 to 64 theirs, which
 /// rise by one, and then the console line its own. 0 is none. Lines that are not there get none, and where none gets
-/// one nothing changes. Where one port is not to be had, those before it are given up again. The refusals are `Port` and
-/// `OutOfMemory` alone, and the machine is then as it was.
+/// one nothing changes. Where one port is not to be had, those before it are given up again. The refusals are `Port`
+/// and `OutOfMemory` alone, and the machine is then as it was.
 pub fn put_ports<U: Unit, L: Lines>(
     alloc: Global,
     machine: &mut Machine<U>,

@@ -30,7 +30,8 @@ use std::alloc::Global;
 use unit_trait::{Kind, Unit};
 
 /// Attaches the files of a saved session, and then listens on its ports: all that the outside can refuse. A refusal
-/// leaves the machine as it was, and closes what was opened; a closing that fails is told by the count of its file alone.
+/// leaves the machine as it was, and closes what was opened; a closing that fails is told by the count of its file
+/// alone.
 pub fn put_outside<U: Unit, F: Files, L: Lines>(
     alloc: Global,
     saved: &Saved,
@@ -92,14 +93,14 @@ fn lacks_unit<U: Unit>(saved: &Saved, machine: &Machine<U>) -> bool
     saved.units.as_slice().len() == 11 && !machine.has_unit(Kind::Qty)
 }
 
-/// Puts a saved session back into a machine of the ten standard kinds, or of these and the multiplexer, to which nothing
-/// is attached, and into its watch tables. `MissingUnit` comes first, exactly where the session has the multiplexer and
-/// the machine has not. Then the tables are built aside; then each file is attached in bus order, only to be read where
-/// it was and else to be changed, and, unless that is forced, compared in length and digest before the next; then the
-/// ports of the second teletype, of the multiplexer and of the console are listened on. The refusals come in this order,
-/// `OutOfMemory` in front of each but the first. Where the machine alone has the multiplexer, this is as it is at first,
-/// and has no event. Behind a refusal the machine and the tables are as
-/// they were, and each file that was opened is closed; a closing that fails is told by the count of its file alone.
+/// Puts a saved session back into a machine of the ten standard kinds, or of these and the multiplexer, to which
+/// nothing is attached, and into its watch tables. `MissingUnit` comes first, exactly where the session has the
+/// multiplexer and the machine has not. Then the tables are built aside; then each file is attached in bus order, only
+/// to be read where it was and else to be changed, and, unless that is forced, compared in length and digest before the
+/// next; then the ports of the second teletype, of the multiplexer and of the console are listened on. The refusals
+/// come in this order, `OutOfMemory` in front of each but the first. Where the machine alone has the multiplexer, this
+/// is as it is at first, and has no event. Behind a refusal the machine and the tables are as they were, and each file
+/// that was opened is closed; a closing that fails is told by the count of its file alone.
 #[tactic(auto, using(saved_files::proofs::PuttingOpenings::opens_nothing))]
 pub fn set_state<U: Unit, F: Files, L: Lines>(
     alloc: Global,

@@ -24,13 +24,12 @@ use saved_session::{Saved, joined, taken_watch};
 use std::alloc::{AllocError, Global};
 use unit_trait::Unit;
 
-/// What a state file has of a session: its machine, of the ten standard kinds of units or of these and the multiplexer,
-/// its watch tables, the files that are attached, and the ports of its lines. What the disk holds of its file is written
-/// back first, and then each file is read, in bus order. All memory is taken before that, so after `OutOfMemory` all is
-/// as it was.
-/// After `Failed` of that write the disk's file is as it leaves it, and its copy is still to be written back; after
-/// `Failed` of a length or a read the copy is written back. Nothing else of the session changes. Whatever files tell,
-/// the answer has a text, which `write_state` writes.
+/// What a state file has of a session: its machine, of the ten standard kinds of units or of these and the
+/// multiplexer, its watch tables, the files that are attached, and the ports of its lines. What the disk holds of its
+/// file is written back first, and then each file is read, in bus order. All memory is taken before that, so after
+/// `OutOfMemory` all is as it was. After `Failed` of that write the disk's file is as it leaves it, and its copy is
+/// still to be written back; after `Failed` of a length or a read the copy is written back. Nothing else of the session
+/// changes. Whatever files tell, the answer has a text, which `write_state` writes.
 pub fn take_state<U: Unit, F: Files>(
     alloc: Global,
     machine: &mut Machine<U>,
