@@ -1,5 +1,5 @@
 -- SHOW speaks of no file's number.
-use Rattle.std.proofs.Common.{slice_get, ◌≡◌, ◌∙◌, ℕ, Bool, true, false, IsTrue, List, [], ◌∷◌, ◌++◌, codes, decimal, map, option_map, append_assoc, append-nil, Option, Some, None, Result, Err, refl, ap, sym, subst, if◌then◌else◌}
+use Rattle.std.proofs.Common.{slice_get, ◌≡◌, ◌∙◌, ℕ, Bool, true, false, IsTrue, List, [], ◌∷◌, ◌++◌, codes, decimal, option_map, append_assoc, append-nil, Option, Some, None, Result, Err, refl, ap, sym, subst, if◌then◌else◌}
 use Rattle.std.proofs.Math.ListN.{get_or-map}
 use Rattle.std.proofs.lemmas.Option.{slice_get-map}
 use Rattle.file_traits.specs.Streams.{Puts}

@@ -46,10 +46,7 @@ fn resize<U: Unit>(machine: &mut Machine<U>, k: u64)
 
 /// SET CPU AUTOBIT lets an indirect reference through an auto-index location test bit 0 of the word there before its
 /// change, or else of the changed word. It is refused for nothing, and prints nothing.
-pub fn set_autobit<U: Unit>(
-    session: &mut Session<U>,
-    before: bool,
-) -> Result<Next, CommandFault>
+pub fn set_autobit<U: Unit>(session: &mut Session<U>, before: bool) -> Result<Next, CommandFault>
     ensures refused { IsRefused result
         → (session.new.machine ≡ session.old.machine) × (session.new.watch ≡ session.old.watch) }
     ensures told { (files : Beyond) (tells : Bool) (text : Output)

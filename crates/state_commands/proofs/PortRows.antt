@@ -1,11 +1,11 @@
 -- Lines without a port that get those of a saved session.
-use Rattle.std.proofs.Common.{◌≡◌, ◌≢◌, ◌⊎◌, inl, inr, ℕ, zero, suc, ◌+◌, ◌<◌, ◌≤◌, ◌^◌, ◌==◌, ◌&&◌, ◌||◌, not, Bool, true, false, List, [], ◌∷◌, ◌++◌, length, map, slice_get, slice_set, Option, Some, None, IfSome, IsTrue, is_some, option_map, refl, sym, ap, subst, ◌∙◌, arith}
+use Rattle.std.proofs.Common.{◌≡◌, ◌≢◌, ◌⊎◌, inl, inr, ℕ, zero, suc, ◌+◌, ◌<◌, ◌≤◌, ◌==◌, ◌&&◌, ◌||◌, not, Bool, true, false, List, [], ◌∷◌, ◌++◌, length, map, slice_get, Option, Some, None, IsTrue, is_some, option_map, refl, sym, ap, subst, ◌∙◌, arith}
 use Rattle.std.specs.Prelude.{nat_le, nat_lt, if◌then◌else◌}
 use Rattle.std.specs.List.{AllByRecursion}
-use Rattle.std.proofs.lemmas.Bool.{and_parts, and_from, or_parts, not-true, true≢false, both_ways, le-leb, lt-ltb, leb-true, eq-eqb, eqb-true}
+use Rattle.std.proofs.lemmas.Bool.{and_parts, not-true, true≢false, both_ways, eq-eqb, eqb-true}
 use Rattle.std.proofs.lemmas.Bool.Decides.{nat_tests, eqb_tells}
 use Rattle.std.proofs.lemmas.Option.{same_Some, slice_get-map}
-use Rattle.host_lines.specs.State.{LineState, with_one, without_one}
+use Rattle.host_lines.specs.State.{LineState, with_one}
 use Rattle.telnet_lines.specs.Line.{LineOf, unconnected}
 use Rattle.telnet_lines.specs.Joined.{seen_line}
 use Rattle.terminal_ports.specs.Ports.{changed_at, HasOther, OthersHaveNone, HavePortsApart}
@@ -128,10 +128,10 @@ beside-row (suc count) place port second apart =
         subst (λ (n : ℕ). NoneIs n second) (omega arith) here.1,
       ),
       beside-row count (suc place) (suc port) second (λ k below.
-      let later = apart (suc k) (omega (arith, below)) in (
-        subst (λ (n : ℕ). NoneAt n second) (omega arith) later.0,
-        subst (λ (n : ℕ). NoneIs n second) (omega arith) later.1,
-      )),
+          let later = apart (suc k) (omega (arith, below)) in (
+            subst (λ (n : ℕ). NoneAt n second) (omega arith) later.0,
+            subst (λ (n : ℕ). NoneIs n second) (omega arith) later.1,
+          )),
     )
 
 is-none : (place port other : ℕ) → NoneIs other (row_from 0 place port)
@@ -168,8 +168,7 @@ console-parts : (tti1 first port : ℕ) → is_console_port tti1 first port ≡ 
 console-parts tti1 first port is some =
     let rest = first == 0 || not (is_among first port) in
     let both = or-other (port == 0) (not (port == tti1) && rest) is (λ none. some (eqb-true port 0 none)) in
-    let parts = and_parts (not (port == tti1)) rest both in
-    (
+    let parts = and_parts (not (port == tti1)) rest both in (
       λ same. both_ways (port == tti1) (not-true (port == tti1) parts.0) (eq-eqb port tti1 same),
       by (first == 0) refl parts.1,
     )

@@ -1,5 +1,5 @@
 -- What RESTORE leaves of the lines.
-use Rattle.std.proofs.Common.{◌≡◌, ◌≢◌, inl, inr, ℕ, zero, suc, ◌+◌, ◌<◌, ◌≤◌, ◌++◌, append-nil, Bool, true, false, true≢false, List, [], ◌∷◌, length, map, slice_get, Option, Some, None, IfSome, IsTrue, is_some, Result, Ok, Err, refl, ap, sym, ◌∙◌, subst, arith}
+use Rattle.std.proofs.Common.{◌≡◌, ◌≢◌, inl, inr, ℕ, zero, suc, ◌+◌, ◌<◌, ◌≤◌, ◌++◌, append-nil, Bool, true, false, true≢false, List, [], ◌∷◌, length, map, slice_get, Option, Some, None, IfSome, IsTrue, is_some, Ok, Err, refl, ap, sym, ◌∙◌, subst, arith}
 use Rattle.std.specs.List.{AllByRecursion}
 use Rattle.std.proofs.lemmas.Option.{same_Some}
 use Rattle.host_lines.specs.declared.lines.ListenFault.{ListenFault}
@@ -206,8 +206,8 @@ refused-left tells ports before fault old new closed each = record {
   told = λ is apart. (
     free-apart new before (closed-free before closed),
     (let chain = each.row.told is in
-    first-through (record_in old.told) (record_in chain.0) (record_in new.told) (tells-grows each.row.before old.told chain.0 chain.1.0)
-    (listens-grows fault chain.0 new.told chain.1.1)),
+        first-through (record_in old.told) (record_in chain.0) (record_in new.told) (tells-grows each.row.before old.told chain.0 chain.1.0)
+        (listens-grows fault chain.0 new.told chain.1.1)),
   );
   heard = λ is. hears-equal old.sent new.sent each.sent;
 }

@@ -1,14 +1,12 @@
 -- What was saved of a session is put back.
 use Rattle.std.proofs.Common.{◌≡◌, ◌≢◌, ℕ, zero, suc, ◌+◌, ◌-◌, ◌*◌, ◌/◌, ◌^◌, ◌<◌, ◌&&◌, not, Bool, true, false, List, [], ◌∷◌, ◌++◌, length, take, drop, map, replicate, get_or, append-nil, Option, Some, None, refl, sym, ap, subst, ◌∙◌, arith}
 use Rattle.std.specs.Prelude.{slice_set, if◌then◌else◌}
-use Rattle.std.specs.List.{AllByRecursion}
 use Rattle.std.proofs.lemmas.List.Concat.{flat_map-cons}
 use Rattle.std.proofs.Math.Seq.{get_or-append_seam, set-append_seam}
 use Rattle.std.proofs.lemmas.List.{take-append-drop, get_or-drop, length-drop, length-map, length-append, append_assoc}
 use Rattle.file_traits.specs.Lists.{NamedBytes, bytes_of}
-use Rattle.host_lines.specs.Traffic.{Peer}
 use Rattle.host_lines.specs.State.{LineState}
-use Rattle.telnet_lines.specs.Line.{LineOf, unconnected, IsSettled}
+use Rattle.telnet_lines.specs.Line.{LineOf, IsSettled}
 use Rattle.telnet_lines.specs.Joined.{seen_line}
 use Rattle.unit_trait.specs.declared.kind.Kind.{Kind}
 use Rattle.unit_trait.specs.declared.kind.Kind.TheVariants.{Dsk, Mta, Lpt, Ptr, Ptp, Clk, Tti, Tto, Tti1, Tto1, Qty}
@@ -33,10 +31,10 @@ use Rattle.saved_session.specs.Ranges.{kind_at}
 use Rattle.saved_files.specs.declared.taking.UnitPlace.{UnitPlace}
 use Rattle.saved_files.specs.Putting.{attachment_of, with_all, copy_of}
 use Rattle.saved_files.specs.Taking.{unit_at, file_places, flag_of, saved_file, saved_at, saved_files}
-use Rattle.state_transfer.specs.Session.{saved_unit, saved_event, saved_machine, saved_ports, saved}
+use Rattle.state_transfer.specs.Session.{saved_unit, saved_event, saved_machine, saved}
 use Rattle.saved_session.specs.SavedWatch.{saved_break, saved_expect, saved_send, saved_watch}
 use Rattle.state_transfer.specs.Processor.{is_set}
-use Rattle.state_transfer.specs.PutBack.{memory_from, unit_from, missing_from, first_multiplexer, units_from, unit_named, event_from, held_from, machine_from, lines_from, put_back, IsIdleLine, CanBeSaved}
+use Rattle.state_transfer.specs.PutBack.{memory_from, unit_from, missing_from, first_multiplexer, units_from, unit_named, event_from, held_from, machine_from, put_back, IsIdleLine, CanBeSaved}
 use Rattle.state_laws.specs.Laws.{SavingPutsBack}
 use Rattle.saved_session.specs.SavedWatch.{break_from, expect_from, send_from, watch_from}
 use Rattle.unit_list.proofs.Calls.{there-kinds}

@@ -1,5 +1,5 @@
 -- A machine is in range once a valid state was put back.
-use Rattle.std.proofs.Common.{◌≡◌, ℕ, zero, suc, ◌+◌, ◌-◌, ◌*◌, ◌%◌, ◌<◌, ◌≤◌, ◌^◌, ◌&&◌, not, eqb, Bool, true, false, List, [], ◌∷◌, ◌++◌, length, map, take, replicate, get_or, append-nil, Option, Some, None, IfSome, inl, inr, refl, sym, ap, subst, ◌∙◌, arith}
+use Rattle.std.proofs.Common.{◌≡◌, ℕ, zero, suc, ◌+◌, ◌-◌, ◌*◌, ◌%◌, ◌<◌, ◌≤◌, ◌^◌, ◌&&◌, not, eqb, Bool, true, false, List, [], ◌∷◌, ◌++◌, length, map, take, replicate, get_or, append-nil, Option, Some, None, IfSome, inl, inr, refl, sym, ap, ◌∙◌, arith}
 use Rattle.std.specs.Prelude.{nat_le, bytes_eq, unwrap_or, slice_index_or, if◌then◌else◌}
 use Rattle.std.specs.List.{AllByRecursion}
 use Rattle.std.proofs.Math.Seq.{get_or-append_right}
@@ -23,7 +23,7 @@ use Rattle.nova_machine.specs.Machine.{has_multiplexer}
 use Rattle.nova_machine.specs.Valid.{AreBytes, IsByteName, HasByteName, ValidMachine, CopyIsFile}
 use Rattle.saved_session.specs.declared.saved.SavedEvent.{SavedEvent}
 use Rattle.saved_session.specs.Parts.{FilePart, MachinePart}
-use Rattle.saved_session.specs.Ranges.{standard_kinds, is_size, kind_at, FilePlace, is_name_length}
+use Rattle.saved_session.specs.Ranges.{standard_kinds, is_size, FilePlace, is_name_length}
 use Rattle.saved_session.specs.Valid.{AreWords, Follow, IsEvent, IsMachine, IsFile}
 use Rattle.saved_session.specs.Order.{with_event, behind_file}
 use Rattle.saved_files.specs.Putting.{unit_of, attachment_of, with_file, with_all, copy_of}

@@ -1,5 +1,5 @@
 -- A machine is valid as it is saved.
-use Rattle.std.proofs.Common.{◌≡◌, ◌⊎◌, ℕ, suc, ◌+◌, ◌/◌, ◌%◌, ◌<◌, ◌≤◌, ◌^◌, ◌&&◌, eqb, Bool, true, false, List, [], ◌∷◌, ◌++◌, length, map, take, All, Option, Some, inl, inr, refl, sym, ap, subst, ◌∙◌, arith}
+use Rattle.std.proofs.Common.{◌≡◌, ℕ, suc, ◌+◌, ◌/◌, ◌%◌, ◌<◌, ◌≤◌, ◌^◌, ◌&&◌, eqb, Bool, true, false, List, [], ◌∷◌, ◌++◌, length, map, take, All, Option, Some, inl, inr, refl, sym, ap, subst, ◌∙◌, arith}
 use Rattle.std.specs.Prelude.{nat_lt, slice_get, option_map}
 use Rattle.std.specs.List.{AllByRecursion, IsDistinct, list_any}
 use Rattle.std.proofs.lemmas.Bool.{and_from, and_parts, or_from, not_from_false, false_from_ne_true, both_ways, le-leb, lt-ltb, ltb-true, eq-eqb, eqb-true}
@@ -24,7 +24,7 @@ use Rattle.nova_machine.specs.Run.{last_time}
 use Rattle.nova_machine.specs.Valid.{ValidMachine}
 use Rattle.expect_actions.specs.KeysFile.{most_keys}
 use Rattle.saved_session.specs.declared.saved.SavedEvent.{SavedEvent}
-use Rattle.saved_session.specs.Ranges.{is_flag, is_size, is_address, kind_at, standard_kinds, most_kinds, is_unit_count, is_position, register_count, within_limits, holds_value, most_events, is_event_of, is_later}
+use Rattle.saved_session.specs.Ranges.{is_flag, is_size, is_address, kind_at, standard_kinds, is_unit_count, is_position, register_count, within_limits, holds_value, most_events, is_event_of, is_later}
 use Rattle.saved_session.specs.Valid.{AreWords, Follow, IsCpu, CanHold, IsUnit, IsEvent, IsMachine}
 use Rattle.saved_session.specs.Order.{next_number, with_event}
 use Rattle.saved_files.specs.Taking.{flag_of}

@@ -160,17 +160,21 @@ units-standard m present is = by-count (ten-or-eleven (length m.units) is.all)
   where
     us : List UnitState
     us = map unit_from m.units
+
     by-present : (b : Bool) → kinds_of us ≡ take standard_kinds all_kinds
         → AreStandard (us ++ (if b && not false then first_multiplexer ∷ [] else []))
     by-present true ten = inr (ten-more us ten)
     by-present false ten = inl (ap kinds_of (nothing-behind us) ∙ ten)
+
     by-all : (b : Bool) → kinds_of us ≡ all_kinds
         → AreStandard (us ++ (if b && not true then first_multiplexer ∷ [] else []))
     by-all true eleven = inr (ap kinds_of (nothing-behind us) ∙ eleven)
     by-all false eleven = inr (ap kinds_of (nothing-behind us) ∙ eleven)
+
     behind : (b : Bool) → has_multiplexer us ≡ b
         → us ++ (if has_multiplexer present && not b then first_multiplexer ∷ [] else []) ≡ units_from m.units present
     behind b same = ap (λ (x : Bool). us ++ (if has_multiplexer present && not x then first_multiplexer ∷ [] else [])) (sym same)
+
     by-count : (length m.units ≡ standard_kinds) ⊎ (length m.units ≡ most_kinds) → AreStandard (units_from m.units present)
     by-count (inl ten) =
         let kinds = are-ten m.units ten is.units in

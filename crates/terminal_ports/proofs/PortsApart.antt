@@ -1,5 +1,5 @@
 -- Lines whose ports are apart stay so where one of them gets a port that none has, or loses its own.
-use Rattle.std.proofs.Common.{◌≡◌, ◌≢◌, ℕ, zero, suc, Bool, false, ◌||◌, List, [], ◌∷◌, map, slice_get, slice_set, Option, Some, None, refl, ap, sym, subst, ◌∙◌}
+use Rattle.std.proofs.Common.{◌≡◌, ◌≢◌, ℕ, zero, suc, false, ◌||◌, List, [], ◌∷◌, map, slice_get, slice_set, Option, Some, None, refl, ap, sym, subst, ◌∙◌}
 use Rattle.std.specs.List.{list_any}
 use Rattle.std.proofs.lemmas.Bool.{false≢true, or_parts, eq-eqb}
 use Rattle.std.proofs.lemmas.Option.{same_Some}

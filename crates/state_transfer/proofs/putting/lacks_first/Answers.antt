@@ -1,8 +1,6 @@
 use Rattle.std.proofs.Common.{◌≡◌, ◌∙◌, ap, sym, length, map, ◌&&◌, ◌==◌, Bool}
 use Rattle.saved_session.specs.Parts.{unit_in}
-use Rattle.saved_session.specs.Ranges.{standard_kinds, is_unit_count}
-use Rattle.unit_list.specs.Bus.{unit_at}
-use Rattle.nova_machine.specs.Machine.{has_multiplexer}
+use Rattle.saved_session.specs.Ranges.{standard_kinds}
 use Rattle.state_transfer.proofs.PutBackMachineLemmas.{lacking-tested}
 use Rattle.state_transfer.proofs.PuttingLemmas.{parts-long, count-of-parts}
 use Rattle.state_transfer.proofs.putting.lacks_first.Goals as goal

@@ -1,4 +1,4 @@
-use Rattle.std.proofs.Common.{◌≡◌, ◌≤◌, ap, sym, subst, ◌∙◌, rules, false, IsTrue, List, [], length, map}
+use Rattle.std.proofs.Common.{◌≡◌, ◌≤◌, ap, sym, subst, ◌∙◌, rules, IsTrue, List, [], length, map}
 use Rattle.nova_machine.specs.Machine.{MachineState}
 use Rattle.saved_session.specs.declared.saved.SavedUnit.{SavedUnit}
 use Rattle.saved_session.specs.declared.saved.SavedEvent.{SavedEvent}

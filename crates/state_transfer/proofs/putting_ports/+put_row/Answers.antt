@@ -1,6 +1,6 @@
-use Rattle.std.proofs.Common.{ℕ, ◌<◌, List, ap, sym, ◌∙◌, rules}
+use Rattle.std.proofs.Common.{ℕ, ◌<◌, List, ap, ◌∙◌, rules}
 use Rattle.telnet_lines.specs.Line.{LineOf}
-use Rattle.nova_machine.specs.Machine.{MachineState, place_of as line_place}
+use Rattle.nova_machine.specs.Machine.{place_of as line_place}
 use Rattle.state_transfer.proofs.RowLemmas.{none-put, one-more}
 use Rattle.state_transfer.proofs.putting_ports.+put_row.Goals as goal
 

@@ -1,4 +1,4 @@
-use Rattle.std.proofs.Common.{◌≡◌, ◌∙◌, ℕ, ap, sym, refl, length, map, ◌&&◌, ◌==◌, not, Bool, false, rules}
+use Rattle.std.proofs.Common.{◌≡◌, ◌∙◌, ap, sym, refl, length, map, ◌&&◌, ◌==◌, not, Bool, false, rules}
 use Rattle.std.proofs.lemmas.Bool.{false_from_ne_true, eq-eqb, eqb-true}
 use Rattle.saved_session.specs.Parts.{unit_in}
 use Rattle.saved_session.specs.Ranges.{most_kinds}
