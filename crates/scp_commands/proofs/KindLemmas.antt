@@ -20,7 +20,7 @@ use Rattle.state_commands.specs.StateAnswers.{PutsBack}
 
 -- the units of a valid machine, put among these, of which none is missing
 module _ (present : List UnitState) (m : MachinePart) (valid : IsMachine m) (found : misses_unit m present ≡ false) where
-  us : List UnitState
+  abbrev us : List UnitState
   us = map unit_from m.units
 
   put-by : (b : Bool) → lack_multiplexer us present ≡ b → units_from m.units present ≡ us ++ (if b then first_multiplexer ∷ [] else [])
