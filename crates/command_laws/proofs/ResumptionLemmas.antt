@@ -49,8 +49,10 @@ use Rattle.state_commands.specs.StateEffects.{unit_claim, flushed_with, save_by,
 use Rattle.command_session.specs.Occupied.{is_occupied}
 use Rattle.scp_commands.specs.Effect.{effect}
 use Rattle.command_laws.proofs.AtRest.{savable}
+use Rattle.command_laws.proofs.OwnLines.{kinds-by-lines}
 use Rattle.state_text.proofs.LooseLaws.{valid_widths}
 use Rattle.state_text.proofs.OwnTexts.{read_own, read_own_first}
+use Rattle.command_laws.specs.Valid.{ValidLive}
 use Rattle.command_laws.specs.Resumption.{done_with, left_by_save, ahead_behind, ports_saved, continued, saved_among, HoldsSaved, IsSavable, IsLike, IsRestored, RestorePutsBack}
 
 -- ---- a file that is read whole
@@ -330,6 +332,14 @@ module _ (live s : Live) (then_files : List NamedBytes) (name : List ℕ) (holds
           either (attachment_at (attached_in live.machine) disk_unit) a
           (disk-left a (find_file live.files a.name) at refl (disk-there force attached.0 a at attached.1))
 
+-- sessions with as many lines have units of the same kinds
+are-like : (present s : Live) → ValidLive present → ValidLive s → present.files ≡ s.files → length present.lines ≡ length s.lines → IsLike present s
+are-like present s one two files many = record {
+  files = files;
+  kinds = kinds-by-lines present.machine.units s.machine.units one.machine.units two.machine.units (sym one.count ∙ many ∙ two.count);
+  many = many;
+}
+
 is-unoccupied : (limit : ℕ) (notes : List CommandNote) (live : Live) (force : Bool) (name : List ℕ) (used : ℕ) → IsRestored limit notes live force name used
     → is_occupied (attached_in live.machine) live.lines ≡ false
 unfolding effect restore_reply
@@ -391,6 +401,7 @@ restore-puts-back = record {
   savable = savable;
   restored = λ limit notes live s force name then_files used is holds like. is-restored live s then_files name holds like limit notes force used is;
   alone = λ limit notes live s force name then_files used is holds like. is-alone live s then_files name holds like limit notes force used is;
+  like = are-like;
   unoccupied = is-unoccupied;
   standard = λ s is. (saved-is-valid.fits s is, valid_widths (saved s) (saved-is-valid.valid s is));
   saved = is-saved;
