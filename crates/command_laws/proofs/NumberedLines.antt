@@ -1,5 +1,5 @@
 -- The ports of the multiplexer's lines rise by one, whatever a command does to the lines of a session.
-use Rattle.std.proofs.Common.{◌≡◌, ℕ, zero, suc, ◌+◌, ◌<◌, ◌≤◌, ◌==◌, ◌&&◌, not, Bool, true, false, List, [], ◌∷◌, ◌++◌, length, map, drop, slice_get, is_some, Option, Some, None, option_map, refl, sym, ap, subst, ◌∙◌, arith, if◌then◌else◌}
+use Rattle.std.proofs.Common.{◌≡◌, ℕ, zero, suc, ◌+◌, ◌<◌, ◌≤◌, ◌==◌, ◌&&◌, not, Bool, true, false, List, [], ◌∷◌, ◌++◌, length, drop, slice_get, is_some, Option, Some, None, option_map, refl, sym, ap, subst, ◌∙◌, arith, if◌then◌else◌}
 use Rattle.std.specs.List.{AllByRecursion}
 use Rattle.std.proofs.lemmas.List.{length-map}
 use Rattle.host_lines.specs.Traffic.{Peer}
@@ -7,7 +7,7 @@ use Rattle.telnet_lines.specs.Line.{LineOf, unconnected}
 use Rattle.terminal_ports.specs.Ports.{changed_at, HavePortsApart, HaveNone, HavePortsFrom, AreNumbered}
 use Rattle.unit_trait.specs.Calls.{UnitState}
 use Rattle.nova_machine.specs.LineChanges.{ports_of}
-use Rattle.nova_machine.specs.Machine.{has_terminal, has_multiplexer, line_count, console_place, place_of as line_place}
+use Rattle.nova_machine.specs.Machine.{has_terminal, has_multiplexer, line_count, place_of as line_place}
 use Rattle.saved_session.specs.declared.saved.SavedPorts.{SavedPorts}
 use Rattle.saved_session.specs.Valid.{ArePorts}
 use Rattle.state_transfer.specs.Ports.{row_from, how_many, is_line, multiplexer_lines, assigned, with_ports}

@@ -1,5 +1,5 @@
 -- What SAVE leaves of a session, and what RESTORE puts in place of the one that was saved.
-use Rattle.std.proofs.Common.{◌≡◌, ℕ, zero, suc, ◌<◌, Bool, true, false, List, [], ◌∷◌, ◌++◌, length, map, drop, inl, inr, Option, Some, None, IsTrue, Result, Ok, Err, refl, ap, sym, ◌∙◌, subst, arith, if◌then◌else◌}
+use Rattle.std.proofs.Common.{◌≡◌, ℕ, zero, suc, Bool, true, false, List, [], ◌∷◌, ◌++◌, length, map, drop, inl, inr, Option, Some, None, IsTrue, Result, Ok, Err, refl, ap, sym, ◌∙◌, subst, arith, if◌then◌else◌}
 use Rattle.std.specs.Prelude.{nat_lt, nat_le, ◌&&◌, slice_get, is_some, IsSome, unwrap_or}
 use Rattle.std.specs.Str.{bytes_eq}
 use Rattle.std.proofs.lemmas.List.{length-map}
@@ -7,7 +7,7 @@ use Rattle.file_traits.specs.declared.files.FileCall.{FileCall}
 use Rattle.file_traits.specs.declared.files.FileCall.TheVariants.{Opening, Length, Read, Closing}
 use Rattle.file_traits.specs.Lists.{NamedBytes, find_file, bytes_of, with_file}
 use Rattle.file_traits.proofs.Changes.{test-same}
-use Rattle.host_lines.specs.Traffic.{Peer, Ahead, Answer as LineAnswer, Failed, listening}
+use Rattle.host_lines.specs.Traffic.{Ahead, Answer as LineAnswer, Failed, listening}
 use Rattle.telnet_lines.specs.Line.{LineOf}
 use Rattle.unit_trait.specs.declared.kind.UnitName.{UnitName}
 use Rattle.unit_files.specs.declared.modes.AttachMode.TheVariants as modes
@@ -41,7 +41,7 @@ use Rattle.state_laws.proofs.PutBackLemmas.{files-back, saving-puts-back}
 use Rattle.scp_parser.specs.Command.{Save, Restore}
 use Rattle.command_session.specs.declared.next.Next.TheVariants.{Go}
 use Rattle.command_session.specs.declared.fault.CommandFault.TheVariants.{AlreadyAttached}
-use Rattle.command_session.specs.Live.{Live, standing}
+use Rattle.command_session.specs.Live.{Live}
 use Rattle.command_session.specs.DiskFile.{is_of_both, is_left_by_disk, is_by_disk_at, disk_alone}
 use Rattle.command_session.specs.Reply.{Reply, refused}
 use Rattle.command_session.specs.WholeCalls.{whole_calls}
