@@ -104,7 +104,10 @@ short-stands tells (Restore force name) ports s t files files' old new whole tel
 short-stands tells (Restore force name) ports s t files files' old new whole telling unasked (inr some) first left =
     let cut : OneRefused tells some.ports listen.OutOfMemory old new = some.listened.row in
     let told = cut.told telling in
-    inr (tt, has-listened cut.before s t files files' old new whole some.listened.behind
-    (subst (λ (x : Told). TellsEach cut.before old.told x) (sym told.1.1) told.1.0) (first tt) left)
+    inr (
+      tt,
+      has-listened cut.before s t files files' old new whole some.listened.behind
+          (subst (λ (x : Told). TellsEach cut.before old.told x) (sym told.1.1) told.1.0) (first tt) left,
+    )
 short-stands tells request ports s t files files' old new whole telling unasked cause first left =
     inl (remains-still (nature request).flushes (live_in s (beyond files old whole)) t files' old new whole (still-same old new (unasked tt (λ none. none))) left)
