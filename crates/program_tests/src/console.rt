@@ -3,9 +3,11 @@ use crate::play::all;
 use std::test::Fail;
 
 /// A state file of a machine of 4K that has done nothing, and whose console line has the port 4000.
-const PORTED: &str = "words=-q -l 250 | space=9000 | before=s:NOVASTAT\0\x02\x04…\0…\0…\0…\0…\0…\0…\0…\0…\0…\0…\0…\0…\0…\0…\0…\0\0\0\0\0\0\0\0\0\0\0\0\0\0\0\0\0\0\0\0\0\0\0\0\0\0\0\0\0\0\0\0\0\0\0\0\0\0\0\0\0\0\0\0\0\0~\0\x08\0\0\0\0\0\0\0\0\0\0\0\0\0\0\0\u{c8}\0\0\0\0\0\0\0\0\0\0\0\0\0\0\0\0\x01\x11\0\0\0\0\0\0\0\0\0\0\0\0\0\0\x03\u{e8}\0\0\0\0\0\0\0\0\0\0\0\0\0\0\0\0\0\0\0\0\0\0\0\0\0\0\0\0\0\0\0\0\0\0\0\0\0\0\0\0\0\0\0\0\0\0\0\0\0\0\0\0\x02\x06\0\0\0\0\0\0\0\0\0\0\0\0\0\0\x01\u{f4}\0\0\0\0\0\0\0\0\x03\x06\0\0\0\0\0\0\0\0\0\0\0\0\0\0\x01,\0\0\0\0\0\0\0\0\x04\x06\0\0\0\0\0\0\0\0\0\0\0\0\0\0\0\u{c8}\0\0\0\0\0\0\0\0\x05\x03\0\0\0\0\0\0\0\0\0\0\0\0\x06\x04\0\0\0\0\0\0\0\0\0\0\0d\0\0\0\0\x07\x04\0\0\0\0\0\0\0\0\0\0\0d\0\0\0\0\x08\x04\0\0\0\0\0\0\0\0\0\0\0d\0\0\0\0\x09\x04\0\0\0\0\0\0\0\0\0\0\0d\0\0\0\0\0\x02\x06\0\0\0\0d\x08\0\0\0\0d\0\0\0\0\0\x0f\u{a0}\0\0\0\0\0\0\x11\u{b4}\u{cf}\r J\u{b6}\u{81}'w|\u{e4}\u{ea}bv\u{c7}\u{d9}\u{e7}\u{e0}\r\u{a6}X\u{bc}\u{dc}P~Z_\x03y\u{91}\u{88}";
+const PORTED: &str =
+    "words=-q -l 250 | space=9000 | before=s:NOVASTAT\0\x02\x04…\0…\0…\0…\0…\0…\0…\0…\0…\0…\0…\0…\0…\0…\0…\0…\0\0\0\0\0\0\0\0\0\0\0\0\0\0\0\0\0\0\0\0\0\0\0\0\0\0\0\0\0\0\0\0\0\0\0\0\0\0\0\0\0\0\0\0\0\0~\0\x08\0\0\0\0\0\0\0\0\0\0\0\0\0\0\0\u{c8}\0\0\0\0\0\0\0\0\0\0\0\0\0\0\0\0\x01\x11\0\0\0\0\0\0\0\0\0\0\0\0\0\0\x03\u{e8}\0\0\0\0\0\0\0\0\0\0\0\0\0\0\0\0\0\0\0\0\0\0\0\0\0\0\0\0\0\0\0\0\0\0\0\0\0\0\0\0\0\0\0\0\0\0\0\0\0\0\0\0\x02\x06\0\0\0\0\0\0\0\0\0\0\0\0\0\0\x01\u{f4}\0\0\0\0\0\0\0\0\x03\x06\0\0\0\0\0\0\0\0\0\0\0\0\0\0\x01,\0\0\0\0\0\0\0\0\x04\x06\0\0\0\0\0\0\0\0\0\0\0\0\0\0\0\u{c8}\0\0\0\0\0\0\0\0\x05\x03\0\0\0\0\0\0\0\0\0\0\0\0\x06\x04\0\0\0\0\0\0\0\0\0\0\0d\0\0\0\0\x07\x04\0\0\0\0\0\0\0\0\0\0\0d\0\0\0\0\x08\x04\0\0\0\0\0\0\0\0\0\0\0d\0\0\0\0\x09\x04\0\0\0\0\0\0\0\0\0\0\0d\0\0\0\0\0\x02\x06\0\0\0\0d\x08\0\0\0\0d\0\0\0\0\0\x0f\u{a0}\0\0\0\0\0\0\x11\u{b4}\u{cf}\r J\u{b6}\u{81}'w|\u{e4}\u{ea}bv\u{c7}\u{d9}\u{e7}\u{e0}\r\u{a6}X\u{bc}\u{dc}P~Z_\x03y\u{91}\u{88}";
 
-const KEPT: &str = "; no other line can have it, nothing is restored beside it, and DETACH ALL leaves it
+const KEPT: &str =
+    "; no other line can have it, nothing is restored beside it, and DETACH ALL leaves it
 lines=RESTORE s~SHOW TTI1~ATTACH TTI1 0~ATTACH TTI1 4000~SHOW TTI1~RESTORE s~DETACH ALL~RESTORE -F s~ATTACH TTI1 4000~ | prints=TTI1, not attached~Value out of range~Port already in use~TTI1, not attached~Unit already attached~Unit already attached~Port already in use~ | ports=1
 ; the end of the input gives up the other one
 lines=RESTORE s~ATTACH TTI1 4001~SHOW TTI1~ | prints=TTI1, listening on port 4001~ | ports=1

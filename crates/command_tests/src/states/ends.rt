@@ -2,7 +2,7 @@
 use crate::checked::check;
 use crate::states::faults::{fault_in, is_refused};
 use crate::states::texts::{
-    BUSY, BUSY_DIGEST, FIRST, FIRST_DIGEST, both_of, bytes_of, equal, number,
+    BUSY, BUSY_DIGEST, BUSY1, BUSY1_DIGEST, FIRST, FIRST_DIGEST, both_of, bytes_of, equal, number,
 };
 use state_file::StateFault;
 use std::alloc::{AllocError, Global};
@@ -98,6 +98,15 @@ fn a_state_is_cut_at_its_first_lengths(rt: HostRuntime) -> Result<(), Fail> {
     Ok(())
 }
 
+#[test]
+fn a_state_of_the_first_version_is_cut_at_its_first_lengths(rt: HostRuntime) -> Result<(), Fail> {
+    let bytes = both_of(rt.alloc(), BUSY1, BUSY1_DIGEST)?;
+    for length in 0..400usize {
+        is_cut_at(&rt, rt.alloc(), &bytes, length);
+    }
+    Ok(())
+}
+
 // Where a field begins.
 const EDGES: &str =
     "0 8 10 11 13 15 17 19 20 22 23 24 26 28 29 30 38 46 8238 8239 8240 8241 8245 8249 8253 8257 8261
@@ -120,8 +129,36 @@ fn a_state_is_cut_at_each_field(rt: HostRuntime) -> Result<(), Fail> {
     Ok(())
 }
 
-fn is_refused_with(rt: &impl Abort, alloc: Global, place: usize) -> Result<(), AllocError> {
-    let mut bytes = both_of(alloc, BUSY, BUSY_DIGEST)?;
+// Where one begins in the first version.
+const FIRST_EDGES: &str =
+    "0 8 10 11 13 15 17 19 20 22 23 24 26 28 29 37 45 8237 8238 8239 8240 8244 8248 8252 8256 8260
+8264 8268 8272 8273 8274 8278 8282 8286 8290 8294 8298 8302 8306 8310 8314 8318 8322 8326 8330
+8334 8338 8342 8343 8344 8348 8352 8356 8360 8364 8368 8369 8370 8374 8378 8382 8386 8390 8394
+8395 8396 8400 8404 8408 8412 8416 8420 8421 8422 8426 8430 8434 8435 8436 8440 8444 8448 8452
+8453 8454 8458 8462 8466 8470 8471 8472 8476 8480 8484 8488 8489 8490 8494 8498 8502 8506 8508
+8509 8510 8514 8515 8516 8520 8521 8522 8526 8527 8528 8532 8533 8534 8535 8536 8538 8546 8554
+8586 8587 8588 8589 8591 8592 8600 8632 8633 8634 8635 8637 8643 8651 8683 8684 8685 8686 8688
+8695 8703 8735 8736 8737 8738 8740 8742 8750 8782 8784 8786 8788 8792 8794 8796 8800 8802 8807
+8809 8813 8815 8826 8827 8831 8832 8836 8838 8842 8843 8849 8851 8859 8860 8863 8865 8873 8874
+8882 8883 8891 8892";
+
+#[test]
+fn a_state_of_the_first_version_is_cut_at_each_field(rt: HostRuntime) -> Result<(), Fail> {
+    let bytes = both_of(rt.alloc(), BUSY1, BUSY1_DIGEST)?;
+    for edge in FIRST_EDGES.split_whitespace() {
+        is_cut_at(&rt, rt.alloc(), &bytes, number(edge));
+    }
+    Ok(())
+}
+
+fn is_refused_with(
+    rt: &impl Abort,
+    alloc: Global,
+    text: &str,
+    digest: &str,
+    place: usize,
+) -> Result<(), AllocError> {
+    let mut bytes = both_of(alloc, text, digest)?;
     let byte = *bytes.get(place).unwrap_or(&0);
     set(&mut bytes, place, byte.wrapping_add(1));
     check(
@@ -135,7 +172,15 @@ fn is_refused_with(rt: &impl Abort, alloc: Global, place: usize) -> Result<(), A
 #[test]
 fn no_byte_of_the_fixed_part_can_be_one_more(rt: HostRuntime) -> Result<(), Fail> {
     for place in 0..47usize {
-        is_refused_with(&rt, rt.alloc(), place)?;
+        is_refused_with(&rt, rt.alloc(), BUSY, BUSY_DIGEST, place)?;
+    }
+    Ok(())
+}
+
+#[test]
+fn nor_can_one_of_the_first_version(rt: HostRuntime) -> Result<(), Fail> {
+    for place in 0..46usize {
+        is_refused_with(&rt, rt.alloc(), BUSY1, BUSY1_DIGEST, place)?;
     }
     Ok(())
 }

@@ -199,12 +199,7 @@ a time of sending past the last | 8883=4000000000000001 | field:8883";
 /// A state and its digest, as texts.
 type Text<'a> = (&'a str, &'a str);
 
-fn has_fault(
-    rt: &impl Abort,
-    alloc: Global,
-    text: Text<'_>,
-    line: &str,
-) -> Result<(), AllocError> {
+fn has_fault(rt: &impl Abort, alloc: Global, text: Text<'_>, line: &str) -> Result<(), AllocError> {
     let (_, rest) = line.split_once(" | ").unwrap_or((line, ""));
     let (change, wanted) = rest.split_once(" | ").unwrap_or((rest, ""));
     let (place, digits) = change.split_once('=').unwrap_or((change, ""));

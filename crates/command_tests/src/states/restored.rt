@@ -7,7 +7,7 @@ use crate::rows::all;
 use crate::sessions::opened;
 use crate::states::attaching::add_bytes;
 use crate::states::texts::{
-    FIRST, FIRST1, FIRST1_DIGEST, FIRST_DIGEST, FULL, FULL_DIGEST, both_of, bytes_of,
+    FIRST, FIRST_DIGEST, FIRST1, FIRST1_DIGEST, FULL, FULL_DIGEST, both_of, bytes_of,
 };
 use crate::units::standard_units;
 use host_files::MemFiles;
@@ -101,13 +101,7 @@ SAVE s2|0 Go|";
 #[test]
 fn the_console_line_gets_its_port_by_a_restore(rt: HostRuntime) -> Result<(), Fail> {
     let state = ported(rt.alloc())?;
-    plays_over(
-        &rt,
-        rt.alloc(),
-        &state,
-        WITH_A_PORT,
-        Some(state.as_slice()),
-    )?;
+    plays_over(&rt, rt.alloc(), &state, WITH_A_PORT, Some(state.as_slice()))?;
     Ok(())
 }
 

@@ -1,7 +1,8 @@
 // States that are read, and written again.
 use crate::checked::check;
 use crate::states::texts::{
-    BUSY, BUSY_DIGEST, FIRST, FIRST1, FIRST1_DIGEST, FIRST_DIGEST, FULL, FULL_DIGEST, both_of, equal,
+    BUSY, BUSY_DIGEST, FIRST, FIRST_DIGEST, FIRST1, FIRST1_DIGEST, FULL, FULL_DIGEST, both_of,
+    equal,
 };
 use state_file::{Saved, SavedCpu, SavedEvent, SavedSend, StateFault, read_state, write_state};
 use std::alloc::Global;
