@@ -23,8 +23,8 @@ ghost use Rattle.session_texts.specs.Scripts.{checked, arguments_of, label_of, b
 ghost use Rattle.session_texts.specs.Actions.{texts_of, coming, texts_behind, behind_refusal};
 ghost use Rattle.session_texts.specs.Actions.{text_of_stop, put_first, overflow_text};
 ghost use Rattle.scp_script.specs.Session.{text_reply};
-ghost use Rattle.scp_script.specs.Loop.{IsAnswer, Answers, AnswerCounts, HasExitStatus, AreKeptBy, AsksRestore, IsShort};
-ghost use Rattle.scp_script.specs.Loop.{Complains, Denies, Follows, FitsIn};
+ghost use Rattle.scp_script.specs.Loop.{IsAnswer, Answers, AnswerCounts, HasExitStatus, AreKeptBy, IsShort};
+ghost use Rattle.scp_script.specs.Loop.{AsksRestore, Complains, Denies, Follows, FitsIn};
 ghost use Rattle.scp_script.specs.Used.{TextTold};
 ghost use Rattle.scp_script.specs.Spending.{EndOf, IsNoExit, NextOf, OpensOne};
 

@@ -58,9 +58,9 @@ pub struct Opening {
 /// The machine has the units of a standard one, with the multiplexer or without, and keeps them.
 ///
 /// `lines` are the ports and connections of the host: a run polls them for the machine's terminal lines, ATTACH of the
-/// second teletype listens on a port, and RESTORE on those of its session. At EXIT and at the end of the input, where no
-/// file had to be kept, the port of the second teletype is given up with its connection; at any other end it stays, and
-/// each other port at every end.
+/// second teletype listens on a port, and RESTORE on those of its session. At EXIT and at the end of the input, where
+/// no file had to be kept, the port of the second teletype is given up with its connection; at any other end it stays,
+/// and each other port at every end.
 pub fn perform<U: Unit, C: Source, F: Files, L: Lines, S: Sink>(
     alloc: Global,
     session: &mut Session<U>,
