@@ -1,5 +1,5 @@
 -- What a session leaves of the ports and the connections of the outside, from a machine that begins to the program's end.
-use Rattle.std.proofs.Common.{◌≡◌, inl, inr, ◌∙◌, ap, sym, subst, refl, ℕ, zero, suc, true≢false, List, [], ◌∷◌, replicate, slice_get, Option, Some, None, is_some, Bool}
+use Rattle.std.proofs.Common.{◌≡◌, inl, inr, ◌∙◌, ap, sym, subst, refl, ℕ, zero, suc, true≢false, List, replicate, slice_get, Option, Some, None, is_some, Bool}
 use Rattle.std.proofs.lemmas.Option.{same_Some}
 use Rattle.host_lines.specs.State.{LineState}
 use Rattle.telnet_lines.specs.Line.{LineOf, unconnected}
