@@ -90,7 +90,8 @@ pub record StopsBefore (input left before after : List ℕ) (old new : Beyond) (
   pub unchanged : new ≡ old
   pub closings : AreWordClosings notes
 
--- Memory ran out in the session, which stopped short: what the commands that were done have left stands.
+-- Memory ran out in the session, which stopped short: what the commands that were done have left stands, but that a RESTORE
+-- that memory ran out in may have listened on ports.
 pub record StopsInside (words : List (List ℕ)) (options : Options) (input left before after : List ℕ) (old new : Beyond) (machine : Option MachineState) (notes : List Note) : Type 0 where
   pub keys : List Key
   pub script : Option (List ℕ)

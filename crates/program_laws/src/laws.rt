@@ -26,8 +26,8 @@ pub fn program_stays_valid()
 {}
 
 /// The law that a program that restores a saved session goes on as that session, and ends as the program does that
-/// saved it and went on, where both have the same outside from there on and no call on a file, the console or the
-/// input fails.
+/// saved it and went on, where both have units of the same kinds and the same outside from there on, and no call on a
+/// file, the console or the input fails.
 pub fn restored_programs_go_on()
     ensures { RestoredProgramsGoOn }
 {}
