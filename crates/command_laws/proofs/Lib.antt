@@ -13,3 +13,4 @@ pub mod WholeSays
 pub mod SetLemmas
 pub mod ScriptLemmas
 pub mod OwnLines
+pub mod NumberedLines

@@ -1,5 +1,5 @@
 -- What SAVE leaves of a session, and what RESTORE puts in place of the one that was saved.
-use Rattle.std.proofs.Common.{◌≡◌, ℕ, zero, suc, ◌<◌, Bool, true, false, List, [], ◌∷◌, ◌++◌, length, map, drop, inl, inr, Option, Some, None, IsTrue, Result, Ok, Err, refl, ap, sym, ◌∙◌, subst, arith, if◌then◌else◌}
+use Rattle.std.proofs.Common.{◌≡◌, ℕ, zero, suc, Bool, true, false, List, [], ◌∷◌, ◌++◌, length, map, drop, inl, inr, Option, Some, None, IsTrue, Result, Ok, Err, refl, ap, sym, ◌∙◌, subst, arith, if◌then◌else◌}
 use Rattle.std.specs.Prelude.{nat_lt, nat_le, ◌&&◌, slice_get, is_some, IsSome, unwrap_or}
 use Rattle.std.specs.Str.{bytes_eq}
 use Rattle.std.proofs.lemmas.List.{length-map}
@@ -7,7 +7,7 @@ use Rattle.file_traits.specs.declared.files.FileCall.{FileCall}
 use Rattle.file_traits.specs.declared.files.FileCall.TheVariants.{Opening, Length, Read, Closing}
 use Rattle.file_traits.specs.Lists.{NamedBytes, find_file, bytes_of, with_file}
 use Rattle.file_traits.proofs.Changes.{test-same}
-use Rattle.host_lines.specs.Traffic.{Peer, Ahead, Answer as LineAnswer, Failed, listening}
+use Rattle.host_lines.specs.Traffic.{Ahead, Answer as LineAnswer, Failed, listening}
 use Rattle.telnet_lines.specs.Line.{LineOf}
 use Rattle.unit_trait.specs.declared.kind.UnitName.{UnitName}
 use Rattle.unit_files.specs.declared.modes.AttachMode.TheVariants as modes
@@ -41,7 +41,7 @@ use Rattle.state_laws.proofs.PutBackLemmas.{files-back, saving-puts-back}
 use Rattle.scp_parser.specs.Command.{Save, Restore}
 use Rattle.command_session.specs.declared.next.Next.TheVariants.{Go}
 use Rattle.command_session.specs.declared.fault.CommandFault.TheVariants.{AlreadyAttached}
-use Rattle.command_session.specs.Live.{Live, standing}
+use Rattle.command_session.specs.Live.{Live}
 use Rattle.command_session.specs.DiskFile.{is_of_both, is_left_by_disk, is_by_disk_at, disk_alone}
 use Rattle.command_session.specs.Reply.{Reply, refused}
 use Rattle.command_session.specs.WholeCalls.{whole_calls}
@@ -49,8 +49,10 @@ use Rattle.state_commands.specs.StateEffects.{unit_claim, flushed_with, save_by,
 use Rattle.command_session.specs.Occupied.{is_occupied}
 use Rattle.scp_commands.specs.Effect.{effect}
 use Rattle.command_laws.proofs.AtRest.{savable}
+use Rattle.command_laws.proofs.OwnLines.{kinds-by-lines}
 use Rattle.state_text.proofs.LooseLaws.{valid_widths}
 use Rattle.state_text.proofs.OwnTexts.{read_own, read_own_first}
+use Rattle.command_laws.specs.Valid.{ValidLive}
 use Rattle.command_laws.specs.Resumption.{done_with, left_by_save, ahead_behind, ports_saved, continued, saved_among, HoldsSaved, IsSavable, IsLike, IsRestored, RestorePutsBack}
 
 -- ---- a file that is read whole
@@ -330,6 +332,14 @@ module _ (live s : Live) (then_files : List NamedBytes) (name : List ℕ) (holds
           either (attachment_at (attached_in live.machine) disk_unit) a
           (disk-left a (find_file live.files a.name) at refl (disk-there force attached.0 a at attached.1))
 
+-- sessions with as many lines have units of the same kinds
+are-like : (present s : Live) → ValidLive present → ValidLive s → present.files ≡ s.files → length present.lines ≡ length s.lines → IsLike present s
+are-like present s one two files many = record {
+  files = files;
+  kinds = kinds-by-lines present.machine.units s.machine.units one.machine.units two.machine.units (sym one.count ∙ many ∙ two.count);
+  many = many;
+}
+
 is-unoccupied : (limit : ℕ) (notes : List CommandNote) (live : Live) (force : Bool) (name : List ℕ) (used : ℕ) → IsRestored limit notes live force name used
     → is_occupied (attached_in live.machine) live.lines ≡ false
 unfolding effect restore_reply
@@ -391,6 +401,7 @@ restore-puts-back = record {
   savable = savable;
   restored = λ limit notes live s force name then_files used is holds like. is-restored live s then_files name holds like limit notes force used is;
   alone = λ limit notes live s force name then_files used is holds like. is-alone live s then_files name holds like limit notes force used is;
+  like = are-like;
   unoccupied = is-unoccupied;
   standard = λ s is. (saved-is-valid.fits s is, valid_widths (saved s) (saved-is-valid.valid s is));
   saved = is-saved;

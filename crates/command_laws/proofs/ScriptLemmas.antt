@@ -12,7 +12,8 @@ use Rattle.nova_machine.specs.Seen.{attached_in}
 use Rattle.nova_machine.specs.Run.{run}
 use Rattle.nova_machine.specs.declared.machine.Stop.{Stop}
 use Rattle.state_text.specs.declared.fault.StateFault.{StateFault}
-use Rattle.state_transfer.specs.Listening.{wants_port}
+use Rattle.state_transfer.specs.Ports.{ports_wanted}
+use Rattle.state_transfer.specs.PutBack.{misses_unit}
 use Rattle.saved_session.specs.Parts.{State}
 use Rattle.state_text.specs.Reading.{reading}
 use Rattle.saved_files.specs.Putting.{FileRefusal, first_refused}
@@ -31,7 +32,7 @@ use Rattle.command_session.specs.FileEffects.{detach_all_reply, emptied_all, kep
 use Rattle.command_session.specs.ExitEffects.{exit_reply}
 use Rattle.command_session.specs.TapeEffects.{tape_in, tape_answer, load_answer, load_reply, can_dump, dump_of, dump_answer, dump_reply}
 use Rattle.command_session.specs.WholeCalls.{whole_calls, write_calls, wrote_answer}
-use Rattle.state_commands.specs.StateEffects.{unit_claim, flushed_with, save_by, save_reply, listened_back, ported_back, restored_by, restored_as, restored_from, restore_reply}
+use Rattle.state_commands.specs.StateEffects.{unit_claim, flushed_with, save_by, save_reply, listening_each, listened_back, restored_by, unless_missing, restored_as, restored_from, restore_reply}
 use Rattle.command_session.specs.Occupied.{is_occupied}
 use Rattle.binary_load.specs.declared.faults.LoadFault.{LoadFault}
 use Rattle.binary_load.specs.Tape.{Tape}
@@ -157,16 +158,18 @@ listened-none said used s live = by said.answer
     by Failed = tt
     by other = tt
 
-ported-none : (wanted : Bool) (used : ℕ) (s : State) (live : Live) → NoScript (ported_back wanted used s live).answer
-ported-none true used s live = listened-none (listening live.ahead) used s live
-ported-none false used s live = tt
-
 restored-none : (refusal : Option (UnitName × FileRefusal)) (used : ℕ) (s : State) (live : Live) → NoScript (restored_by refusal used s live).answer
 restored-none (Some refusal) used s live = tt
-restored-none None used s live = ported-none (wants_port s.port live.lines) used s live
+restored-none None used s live = listened-none (listening_each (ports_wanted s.ports live.lines) live.ahead) used s live
+
+missing-none : (misses : Bool) (used : ℕ) (live : Live) (reply : Reply) → NoScript reply.answer → NoScript (unless_missing misses used live reply).answer
+missing-none true used live reply none = tt
+missing-none false used live reply none = none
 
 state-none : (force : Bool) (used : ℕ) (notes : List CommandNote) (r : Result State StateFault) (live : Live) → NoScript (restored_as force used notes r live).answer
-state-none force used notes (Ok s) live = restored-none (first_refused (unit_claim live.machine.time notes) force s.files no_attachments live.files) used s live
+state-none force used notes (Ok s) live =
+    missing-none (misses_unit s.machine live.machine.units) used live _
+    (restored-none (first_refused (unit_claim live.machine.time notes) force s.files no_attachments live.files) used s live)
 state-none force used notes (Err fault) live = tt
 
 restore_from-none : (force : Bool) (read : WholeSaid × ℕ) (notes : List CommandNote) (live : Live) → NoScript (restored_from force read notes live).answer

@@ -1,8 +1,7 @@
 -- Every command keeps what every state is, and what the disk holds of its file.
 use Rattle.std.proofs.Common.{◌≡◌, ◌≢◌, inl, inr, ℕ, zero, suc, ◌+◌, ◌^◌, ◌<◌, ◌≤◌, ◌==◌, ◌&&◌, not, nat_le, nat_lt, min, unwrap_or, Bool, true, false, List, [], ◌∷◌, length, drop, get_or, map, Option, Some, None, IfSome, option_map, Result, Ok, Err, if◌then◌else◌, refl, sym, ap, subst, ◌∙◌, arith, is_none, is_some}
 use Rattle.std.proofs.lemmas.Bool.{and_parts, leb-true, ltb-true}
-use Rattle.std.proofs.lemmas.List.{length-map}
-use Rattle.std.proofs.lemmas.Option.{same_Some}
+use Rattle.std.proofs.lemmas.List.{length-map, length-replicate}
 use Rattle.observations.specs.Observations.{Prints, map_made}
 use Rattle.observations.proofs.MadeLemmas.{stands-either, stands-mapped}
 use Rattle.file_traits.specs.Lists.{NamedBytes, bytes_of}
@@ -24,7 +23,7 @@ use Rattle.binary_load.specs.declared.faults.LoadFault.{LoadFault}
 use Rattle.binary_load.specs.Tape.{Tape}
 use Rattle.binary_load.proofs.RangeLemmas.{dump-bytes}
 use Rattle.nova_memory.specs.Memory.{fits_size}
-use Rattle.nova_machine.specs.Machine.{MachineState, reset_machine}
+use Rattle.nova_machine.specs.Machine.{MachineState, reset_machine, line_count, place_of as line_place}
 use Rattle.unit_list.specs.Bus.{kinds_of}
 use Rattle.unit_files.specs.Attachments.{no_attachments}
 use Rattle.nova_machine.specs.Seen.{unnumbered, attached_in}
@@ -36,9 +35,10 @@ use Rattle.machine_laws.proofs.StayingValid.{runs-stay-valid}
 use Rattle.nova_machine.specs.declared.machine.Stop.{Stop}
 use Rattle.machine_laws.proofs.ValidBytes.{AreFiles, files-found}
 use Rattle.state_text.specs.declared.fault.StateFault.{StateFault}
-use Rattle.state_transfer.specs.Listening.{wants_port}
+use Rattle.state_transfer.specs.Ports.{ports_wanted}
 use Rattle.saved_session.specs.Parts.{State}
-use Rattle.state_transfer.specs.PutBack.{machine_from, port_from, lines_from, put_back}
+use Rattle.saved_session.specs.Ranges.{has_multiplexer as is_listed}
+use Rattle.state_transfer.specs.PutBack.{unit_from, misses_unit, machine_from, put_back}
 use Rattle.state_text.specs.Reading.{reading}
 use Rattle.saved_files.specs.Putting.{FileRefusal, with_all, at_unit}
 use Rattle.saved_files.specs.Taking.{first_unsaved, disk_flushed, files_flushed, copy_flushed}
@@ -72,10 +72,12 @@ use Rattle.command_session.specs.FileEffects.{filed_in, emptied_all, left_by, un
 use Rattle.host_lines.specs.Traffic.{Answer as LineAnswer, Peer, Replied, Ahead, Script, Answers, Quiet, Failed, replied, begun, listening}
 use Rattle.telnet_lines.specs.Line.{LineOf, unconnected}
 use Rattle.command_session.specs.LineEffects.{is_terminal, terminal_place, terminal_line, ported, closed, closed_by, unported, hung, hung_by, hung_up, is_port, listen_answer, listen_lines, listen_with, attach_line, attach_port_reply}
-use Rattle.command_session.proofs.PortLemmas.{apart-unported, apart-hung, apart-ported, apart-free}
-use Rattle.terminal_ports.specs.Ports.{changed_at, is_taken, HavePortsApart, HaveNone}
+use Rattle.command_session.proofs.PortLemmas.{apart-unported, apart-hung, apart-ported}
+use Rattle.terminal_ports.specs.Ports.{changed_at, is_taken, HavePortsApart, AreNumbered}
 use Rattle.terminal_ports.proofs.PortsApart.{apart-by}
-use Rattle.command_laws.proofs.OwnLines.{standard-many}
+use Rattle.command_laws.proofs.OwnLines.{same-many, standard-by, standard-saved}
+use Rattle.command_laws.proofs.NumberedLines.{numbered-by, numbered-changed, numbered-back, apart-back, many-back}
+use Rattle.state_laws.proofs.PutBackRange.{kinds-put}
 use Rattle.command_session.specs.LineEffects.{with_port, detach_port_reply, disconnect_reply, show_line}
 use Rattle.plain_commands.specs.ShowEffects.{show_reply}
 use Rattle.command_session.specs.ExitEffects.{exit_reply}
@@ -83,7 +85,7 @@ use Rattle.plain_commands.specs.SetEffects.{sized, ruled, set_size_reply, set_au
 use Rattle.plain_commands.specs.ScriptEffects.{test_answer, assert_answer, echo_reply, assert_reply, goto_reply}
 use Rattle.host_commands.specs.DoEffects.{do_answer, do_reply}
 use Rattle.command_session.specs.WholeCalls.{whole_calls, write_calls, wrote_answer}
-use Rattle.state_commands.specs.StateEffects.{unit_claim, flushed_with, save_by, save_reply, heard_live, listened_back, ported_back, restored_by, restored_as, restored_from, restore_reply}
+use Rattle.state_commands.specs.StateEffects.{unit_claim, flushed_with, save_by, save_reply, heard_live, unless_failed, listening_each, listened_back, restored_by, unless_missing, restored_as, restored_from, restore_reply}
 use Rattle.command_session.specs.Occupied.{is_occupied}
 use Rattle.command_session.specs.TapeEffects.{tape_in, tape_answer, loaded_machine, load_answer, load_reply, can_dump, dump_of, dump_answer, dump_reply}
 use Rattle.scp_commands.specs.Effect.{effect}
@@ -122,7 +124,7 @@ Stands live reply = StandsBy false live reply
 -- a machine with the same kinds of units, and one of this program where what is attached to it and its lines are the same
 program-machine : (m m' : MachineState) → IsProgramMachine m → kinds_of m'.units ≡ kinds_of m.units → m'.slots ≡ m.slots → m'.aside ≡ m.aside → m'.lines ≡ m.lines → IsProgramMachine m'
 program-machine m m' is kinds slots aside lines = record {
-  units = kinds ∙ is.units;
+  units = standard-by m.units m'.units kinds is.units;
   numbers = ap (λ (l : List (Option Held)). map unnumbered l) slots ∙ is.numbers ∙ sym slots;
   aside = aside ∙ is.aside;
   lines = lines ∙ is.lines;
@@ -137,16 +139,16 @@ numberless-numbers (Some a ∷ attached) = ap (λ (l : List (Option Held)). Some
 program-filed : (m m' : MachineState) (attached : List (Option Attachment)) → IsProgramMachine m → kinds_of m'.units ≡ kinds_of m.units → m'.slots ≡ numberless attached → m'.aside ≡ m.aside → m'.lines ≡ m.lines
     → IsProgramMachine m'
 program-filed m m' attached is kinds slots aside lines = record {
-  units = kinds ∙ is.units;
+  units = standard-by m.units m'.units kinds is.units;
   numbers = ap (λ (l : List (Option Held)). map unnumbered l) slots ∙ numberless-numbers attached ∙ sym slots;
   aside = aside ∙ is.aside;
   lines = lines ∙ is.lines;
 }
 
 -- another machine at the same time, with other watch tables and files
-changed-live : (live : Live) (m : MachineState) (w : WatchState) (files : List NamedBytes) → ValidLive live → ValidMachine m → m.taken ≡ live.machine.taken → m.time ≡ live.machine.time → IsProgramMachine m
+changed-live : (live : Live) (m : MachineState) (w : WatchState) (files : List NamedBytes) → ValidLive live → ValidMachine m → m.taken ≡ live.machine.taken → m.time ≡ live.machine.time → kinds_of m.units ≡ kinds_of live.machine.units → IsProgramMachine m
     → ValidWatch w → AreFiles files → ValidLive (record live { machine = m; watch = w; files = files })
-changed-live live m w files is machine taken time own watch all = record {
+changed-live live m w files is machine taken time kinds own watch all = record {
   valid = record {
     machine = machine;
     watch = watch;
@@ -159,16 +161,17 @@ changed-live live m w files is machine taken time own watch all = record {
   };
   time = subst (λ (n : ℕ). n ≤ last_time) (sym time) is.time;
   machine = own;
-  count = is.count ∙ standard-many live.machine.units m.units is.machine.units own.units;
+  count = is.count ∙ same-many live.machine.units m.units (sym kinds);
   ports = is.ports;
+  numbered = is.numbered;
 }
 
 machine-live : (live : Live) (m : MachineState) → ValidLive live → ValidMachine m → LeavesRest live.machine m → m.aside ≡ live.machine.aside → ValidLive (with_machine live m)
 machine-live live m is machine rest aside =
-    changed-live live m live.watch live.files is machine rest.taken rest.time (program-machine live.machine m is.machine rest.kinds rest.slots aside rest.lines) is.valid.watch is.valid.files
+    changed-live live m live.watch live.files is machine rest.taken rest.time rest.kinds (program-machine live.machine m is.machine rest.kinds rest.slots aside rest.lines) is.valid.watch is.valid.files
 
 pub watch-live : (live : Live) (w : WatchState) → ValidLive live → ValidWatch w → ValidLive (record live { watch = w })
-watch-live live w is watch = changed-live live live.machine w live.files is is.valid.machine refl refl is.machine watch is.valid.files
+watch-live live w is watch = changed-live live live.machine w live.files is is.valid.machine refl refl refl is.machine watch is.valid.files
 
 -- the disk's copy was written back
 flushed-machine : (m : MachineState) → ValidMachine m → ValidMachine (flushed_machine m)
@@ -187,8 +190,9 @@ flushed-machine m is = record {
 -- ---- replies
 
 -- with other lines
-lined-live : (live : Live) (lines : List (LineOf Peer)) → ValidLive live → AllByRecursion ValidLine lines → length lines ≡ length live.lines → HavePortsApart lines → ValidLive (record live { lines = lines })
-lined-live live lines is all count ports = record {
+lined-live : (live : Live) (lines : List (LineOf Peer)) → ValidLive live → AllByRecursion ValidLine lines → length lines ≡ length live.lines → HavePortsApart lines → AreNumbered (drop (line_place 1) lines)
+    → ValidLive (record live { lines = lines })
+lined-live live lines is all count ports numbered = record {
   valid = record {
     machine = is.valid.machine;
     watch = is.valid.watch;
@@ -203,6 +207,7 @@ lined-live live lines is all count ports = record {
   machine = is.machine;
   count = count ∙ is.count;
   ports = ports;
+  numbered = numbered;
 }
 
 -- and with what is to come on them
@@ -222,6 +227,7 @@ ahead-live live ahead is valid = record {
   machine = is.machine;
   count = is.count;
   ports = is.ports;
+  numbered = is.numbered;
 }
 
 -- a line to which nobody is connected
@@ -256,6 +262,10 @@ valid-unported lines all = valid-changed terminal_place closed lines (λ line va
 
 valid-hung : (lines : List (LineOf Peer)) → AllByRecursion ValidLine lines → AllByRecursion ValidLine (hung_up terminal_place lines)
 valid-hung lines all = valid-changed terminal_place hung lines (λ line valid. hung-valid line.port line valid.port valid) all
+
+-- it is before those of the multiplexer
+before-others : terminal_place < line_place 1
+before-others = omega arith
 
 -- there are as many lines as before
 many-ported : (port : Option ℕ) (lines : List (LineOf Peer)) → length (ported terminal_place port lines) ≡ length lines
@@ -305,7 +315,7 @@ stands-answers answer used live is gives = record { valid = record { after = is;
 stands-files : (answer : Answer) (used : ℕ) (live : Live) (files : List NamedBytes) → ValidLive live → AreFiles files → GivesBytes answer
     → Stands live (record { made = []; answer = answer; after = standing used (record live { files = files }) })
 stands-files answer used live files is all gives = record {
-  valid = record { after = changed-live live live.machine live.watch files is is.valid.machine refl refl is.machine is.valid.watch all; made = λ at h. absurd h; script = gives };
+  valid = record { after = changed-live live live.machine live.watch files is is.valid.machine refl refl refl is.machine is.valid.watch all; made = λ at h. absurd h; script = gives };
   holds = λ is. is;
   stays = copy-same live (record live { files = files }) refl refl;
 }
@@ -354,8 +364,9 @@ stands-ran notes step count live is =
       valid = valid;
       time = time;
       machine = program-machine s.machine t.machine is.machine shape.kinds shape.slots shape.aside shape.own;
-      count = shape.count ∙ is.count ∙ standard-many s.machine.units t.machine.units is.machine.units (shape.kinds ∙ is.machine.units);
+      count = shape.count ∙ is.count ∙ same-many s.machine.units t.machine.units (sym shape.kinds);
       ports = apart-by s.lines t.lines shape.ports is.ports;
+      numbered = numbered-by (line_place 1) s.lines t.lines shape.ports is.numbered;
     }
 
 -- a run from another machine with the same files
@@ -441,6 +452,7 @@ stands-attach_with fault option unit name live drive named is =
           valid = record {
             after = changed-live live m live.watch files is
                 (attached-valid (Attached count) (mode_of option) unit name (bytes_of files name) live.machine drive fits named (files-found files name all) is.valid.machine) refl refl
+                (positioned-kinds unit (first_place unit.kind count) live.machine.units)
                 (program-filed live.machine m (with_attachment (attached_in live.machine) unit (Some a)) is.machine (positioned-kinds unit (first_place unit.kind count) live.machine.units) refl refl refl)
                 is.valid.watch all;
             made = λ at h. absurd h;
@@ -487,7 +499,7 @@ stands-detach_with fault unit live drive is = by-said (detach_said fault unit (a
         let some : 0 < length (attached_in live.machine) = omega (arith, attached-count live.machine, is.valid.machine.places) in
         record {
           valid = record {
-            after = changed-live live m live.watch files is (detached-valid (Detached failure) unit live.machine is.valid.machine) refl refl
+            after = changed-live live m live.watch files is (detached-valid (Detached failure) unit live.machine is.valid.machine) refl refl refl
                 (program-filed live.machine m (detached unit (attached_in live.machine)) is.machine refl refl refl refl) is.valid.watch all;
             made = λ at h. absurd h;
             script = tt;
@@ -534,7 +546,8 @@ stands-listen_with said port live low free valid is = by said.answer
       valid = record {
         after = lined-live (record live { ahead = said.ahead }) (ported terminal_place (Some port) live.lines) (ahead-live live said.ahead is valid)
             (valid-ported (Some port) live.lines (port-low port low) is.valid.lines) (many-ported (Some port) live.lines)
-            (apart-ported port live.lines (not-zero port low) free is.ports);
+            (apart-ported port live.lines (not-zero port low) free is.ports)
+            (numbered-changed terminal_place (λ (line : LineOf Peer). unconnected (Some port)) live.lines before-others is.numbered);
         made = λ at h. absurd h;
         script = tt;
       };
@@ -555,22 +568,22 @@ stands-attach_port live port is = by (terminal_line live.lines)
         (λ free. stands-listen_with (listening live.ahead) port live low free (valid-listening live.ahead is.valid.ahead) is))
         (λ _. stands-refused _ live is))
 
-stands-with_port : (line : Option (LineOf Peer)) (lines : List (LineOf Peer)) (live : Live) → AllByRecursion ValidLine lines → length lines ≡ length live.lines → HavePortsApart lines → ValidLive live
-    → Stands live (with_port line (goes (record live { lines = lines })) live)
-stands-with_port None lines live all count ports is = stands-refused _ live is
-stands-with_port (Some line) lines live all count ports is =
+stands-with_port : (line : Option (LineOf Peer)) (lines : List (LineOf Peer)) (live : Live) → AllByRecursion ValidLine lines → length lines ≡ length live.lines → HavePortsApart lines
+    → AreNumbered (drop (line_place 1) lines) → ValidLive live → Stands live (with_port line (goes (record live { lines = lines })) live)
+stands-with_port None lines live all count ports numbered is = stands-refused _ live is
+stands-with_port (Some line) lines live all count ports numbered is =
     stands-if (is_none line.port) live _ _ (λ _. stands-refused _ live is)
-    (λ _. stands-goes live (record live { lines = lines }) (lined-live live lines is all count ports) refl refl)
+    (λ _. stands-goes live (record live { lines = lines }) (lined-live live lines is all count ports numbered) refl refl)
 
 stands-detach_port : (live : Live) → ValidLive live → Stands live (detach_port_reply live)
 unfolding detach_port_reply
 stands-detach_port live is = stands-with_port (terminal_line live.lines) (unported terminal_place live.lines) live (valid-unported live.lines is.valid.lines) (many-unported live.lines)
-    (apart-unported terminal_place live.lines is.ports) is
+    (apart-unported terminal_place live.lines is.ports) (numbered-changed terminal_place closed live.lines before-others is.numbered) is
 
 stands-disconnect : (live : Live) → ValidLive live → Stands live (disconnect_reply live)
 unfolding disconnect_reply
 stands-disconnect live is = stands-with_port (terminal_line live.lines) (hung_up terminal_place live.lines) live (valid-hung live.lines is.valid.lines) (many-hung live.lines)
-    (apart-hung terminal_place live.lines is.ports) is
+    (apart-hung terminal_place live.lines is.ports) (numbered-changed terminal_place hung live.lines before-others is.numbered) is
 
 -- all units lose their files, and then that comes
 filed-live : (live : Live) → ValidLive live → IsFiled (filed_in live)
@@ -594,9 +607,10 @@ stands-emptied next notes live gives is = by-keeper e.kept refl
           valid = record {
             after =
                 lined-live (left_by None e.left live) (unported terminal_place live.lines)
-                (changed-live live m live.watch e.left.files is (filed-valid live.machine e.left.attached e.left.disk is.valid.machine filed.places filed.names filed.disk) refl refl
+                (changed-live live m live.watch e.left.files is (filed-valid live.machine e.left.attached e.left.disk is.valid.machine filed.places filed.names filed.disk) refl refl refl
                 (program-filed live.machine m e.left.attached is.machine refl refl refl refl) is.valid.watch filed.files)
-                (valid-unported live.lines is.valid.lines) (many-unported live.lines) (apart-unported terminal_place live.lines is.ports);
+                (valid-unported live.lines is.valid.lines) (many-unported live.lines) (apart-unported terminal_place live.lines is.ports)
+                (numbered-changed terminal_place closed live.lines before-others is.numbered);
             made = λ at h. absurd h;
             script = gives;
           };
@@ -800,7 +814,7 @@ flushed-with claim live is =
     let m = live.machine in
     let attached = attached_in m in
     changed-live live (record m { disk = copy_flushed claim attached m.disk }) live.watch (files_flushed claim attached m.disk live.files) is
-    (left-machine (disk_flushed claim attached m.disk) m is.valid.machine) refl refl
+    (left-machine (disk_flushed claim attached m.disk) m is.valid.machine) refl refl refl
     (program-machine m (record m { disk = copy_flushed claim attached m.disk }) is.machine refl refl refl refl) is.valid.watch
     (flushed-files (at_unit disk_unit claim) disk_unit (attachment_at attached disk_unit) m.disk live.files is.valid.machine.disk is.valid.files)
 
@@ -812,7 +826,7 @@ stands-flushed claim answer used live files is all gives =
     let there = flushed-with claim live is in
     record {
       valid = record {
-        after = changed-live flushed flushed.machine flushed.watch files there there.valid.machine refl refl there.machine there.valid.watch all;
+        after = changed-live flushed flushed.machine flushed.watch files there there.valid.machine refl refl refl there.machine there.valid.watch all;
         made = λ at h. absurd h;
         script = gives;
       };
@@ -854,29 +868,14 @@ byte-at [] i all = omega arith
 byte-at (b ∷ bytes) zero all = all.0
 byte-at (b ∷ bytes) (suc i) all = byte-at bytes i all.1
 
--- what is read of bytes is valid, and so is a session into which it is put back
-many-from : (port : ℕ) (lines : List (LineOf Peer)) → length (lines_from port lines) ≡ length lines
-many-from port lines =
-    many-changed terminal_place (λ (line : LineOf Peer). unconnected (port_from port)) (map (λ (line : LineOf Peer). unconnected None) lines)
-    ∙ length-map lines (λ (line : LineOf Peer). unconnected None)
-
-none-free : (lines : List (LineOf Peer)) → HaveNone (map {B = LineOf Peer} (λ (line : LineOf Peer). unconnected None) lines)
-none-free [] = tt
-none-free (line ∷ lines) = (refl, none-free lines)
-
-some-from : (port : ℕ) → port_from port ≢ Some 0
-some-from zero none = absurd (cc)
-some-from (suc port) none = absurd (omega (arith, same_Some (suc port) 0 none))
-
-session-from : (port : ℕ) (lines : List (LineOf Peer)) → HavePortsApart (lines_from port lines)
-session-from port lines =
-    session-ported (port_from port) (map (λ (line : LineOf Peer). unconnected None) lines) (some-from port)
-    (session-free (map (λ (line : LineOf Peer). unconnected None) lines) (none-free lines))
-
-put-back : (bytes : List ℕ) (s : State) (live : Live) → AreBytes bytes → reading bytes ≡ Ok s → ValidLive live → ValidLive (put_back s live)
+-- What is read of bytes is valid, and so is a session into which it is put back, where that has each unit of the saved one.
+put-back : (bytes : List ℕ) (s : State) (live : Live) → AreBytes bytes → reading bytes ≡ Ok s → misses_unit s.machine live.machine.units ≡ false → ValidLive live → ValidLive (put_back s live)
 unfolding machine_from
-put-back bytes s live all read is =
+put-back bytes s live all read found is =
     let valid = (texts-are-read.only bytes s (λ i. byte-at bytes i all) read).0 in
+    let same : kinds_of (put_back s live).machine.units ≡ kinds_of live.machine.units =
+    kinds-put (map unit_from s.machine.units) live.machine.units (standard-saved s.machine valid.machine) is.machine.units found in
+    let many : length live.lines ≡ suc (line_count live.machine.units) = is.count ∙ ap suc (length-replicate (line_count live.machine.units) _) in
     record {
       valid = put-back-is-valid.valid s live valid is.valid;
       time = put-back-is-valid.time s live valid;
@@ -886,10 +885,9 @@ put-back bytes s live all read is =
         aside = refl;
         lines = refl;
       };
-      count =
-          many-from s.port live.lines ∙ is.count
-          ∙ standard-many live.machine.units (put_back s live).machine.units is.machine.units (put-back-is-valid.units s live valid);
-      ports = session-from s.port live.lines;
+      count = many-back s.ports live.lines ∙ is.count ∙ same-many live.machine.units (put_back s live).machine.units (sym same);
+      ports = apart-back (is_listed (length s.machine.units)) s.ports live.lines valid.ports (omega (arith, many));
+      numbered = numbered-back live.machine.units s.ports live.lines many;
     }
 
 -- with what is to come on lines
@@ -916,13 +914,26 @@ stands-listened_back said used s live valid back is = by said.answer
     }
     by other = stands-put_back used s live (Ok Go) said.ahead valid tt back
 
+-- so it is where several ports are listened on, up to one that is not to be had
+valid-each : (ports : List ℕ) (ahead : Ahead) → ValidAhead ahead → ValidAhead (listening_each ports ahead).ahead
+unfolding listening_each
+valid-each [] ahead valid = valid
+valid-each (port ∷ ports) ahead valid =
+    by (listening ahead).answer (listening ahead).ahead (valid-listening ahead valid) (valid-each ports (listening ahead).ahead (valid-listening ahead valid))
+  where
+    by : (answer : LineAnswer) (behind : Ahead) → ValidAhead behind → ValidAhead (listening_each ports behind).ahead → ValidAhead (unless_failed answer behind (listening_each ports)).ahead
+    by Failed behind now more = now
+    by other behind now more = more
+
 stands-restored : (o : Option (UnitName × FileRefusal)) (used : ℕ) (s : State) (live : Live) → ValidLive (put_back s live) → ValidLive live → Stands live (restored_by o used s live)
 stands-restored (Some refusal) used s live back is = stands-answers _ _ live is tt
-stands-restored None used s live back is = by-port (wants_port s.port live.lines)
-  where
-    by-port : (b : Bool) → Stands live (ported_back b used s live)
-    by-port true = stands-listened_back (listening live.ahead) used s live (valid-listening live.ahead is.valid.ahead) back is
-    by-port false = stands-put_back used s live (Ok Go) live.ahead is.valid.ahead tt back
+stands-restored None used s live back is =
+    let ports = ports_wanted s.ports live.lines in
+    stands-listened_back (listening_each ports live.ahead) used s live (valid-each ports live.ahead is.valid.ahead) back is
+
+stands-found : (misses : Bool) (used : ℕ) (live : Live) (reply : Reply) → (misses ≡ false → Stands live reply) → ValidLive live → Stands live (unless_missing misses used live reply)
+stands-found true used live reply stands is = stands-answers _ used live is tt
+stands-found false used live reply stands is = stands refl
 
 stands-read_back : (force : Bool) (said : WholeSaid) (used : ℕ) (notes : List CommandNote) (live : Live) → GivesWhole said → ValidLive live
     → Stands live (restored_from force (said, used) notes live)
@@ -930,7 +941,9 @@ stands-read_back force (WholeIs bytes) used notes live gives is = by-state (read
   where
     by-state : (r : Result State StateFault) → reading bytes ≡ r → Stands live (restored_as force used (drop used notes) r live)
     by-state (Err fault) read = stands-answers _ used live is tt
-    by-state (Ok s) read = stands-restored _ used s live (put-back bytes s live gives read is) is
+    by-state (Ok s) read =
+        stands-found (misses_unit s.machine live.machine.units) used live _
+        (λ found. stands-restored _ used s live (put-back bytes s live gives read found is) is) is
 stands-read_back force whole.NotThere used notes live gives is = stands-answers _ used live is tt
 stands-read_back force whole.TooLong used notes live gives is = stands-answers _ used live is tt
 stands-read_back force whole.CallFailed used notes live gives is = stands-answers _ used live is tt
@@ -1053,7 +1066,7 @@ left-valid reply answer at tells before after is some does = subst (λ (s : Stan
 flushed-valid : (live : Live) → ValidLive live → ValidLive (flushed live)
 flushed-valid live is =
     changed-live live (flushed_machine live.machine) live.watch (flushed_files None disk_unit live) is (flushed-machine live.machine is.valid.machine)
-    refl refl (program-machine live.machine (flushed_machine live.machine) is.machine refl refl refl refl) is.valid.watch (flushed-files None disk_unit (attachment_at (attached_in live.machine) disk_unit) live.machine.disk live.files is.valid.machine.disk is.valid.files)
+    refl refl refl (program-machine live.machine (flushed_machine live.machine) is.machine refl refl refl refl) is.valid.watch (flushed-files None disk_unit (attachment_at (attached_in live.machine) disk_unit) live.machine.disk live.files is.valid.machine.disk is.valid.files)
 
 pub remains-valid : (flushes : Bool) (old new : Live) → ValidLive old → Remains flushes old new → ValidLive new
 remains-valid false old new is same = subst ValidLive (sym same) is

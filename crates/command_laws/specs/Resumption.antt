@@ -126,6 +126,8 @@ pub record RestorePutsBack : Type 0 where
   pub alone : (limit : ℕ) (notes : List CommandNote) (live s : Live) (force : Bool) (name : List ℕ) (then_files : List NamedBytes) (used : ℕ)
       → IsRestored limit notes live force name used → HoldsSaved live.files then_files name s → IsLike live s
       → IsTrue (disk_alone live (continued s live))
+  -- so it is wherever both are such as commands work on, and the files and the number of lines are the same
+  pub like : (present s : Live) → ValidLive present → ValidLive s → present.files ≡ s.files → length present.lines ≡ length s.lines → IsLike present s
   -- it is done only where nothing is attached and no line has a port
   pub unoccupied : (limit : ℕ) (notes : List CommandNote) (live : Live) (force : Bool) (name : List ℕ) (used : ℕ) → IsRestored limit notes live force name used
       → is_occupied (attached_in live.machine) live.lines ≡ false

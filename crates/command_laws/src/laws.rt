@@ -44,10 +44,10 @@ pub fn same_state_same_command()
     ensures { SameStateSameCommand }
 {}
 
-/// The law of what RESTORE puts in place, where it is done and its file has the text of what was saved of a session:
-/// the machine, what is attached to it, the watch tables and the line are those of that session; the keys and the files
-/// are the present ones, and so is what is still to come on lines, less one listening where there is a port. And a SAVE
-/// in which no call on a file fails leaves such a file.
+/// The law of what RESTORE puts in place, where it is done and its file has the text of what was saved of a session, in
+/// either version, and the present machine has units of the same kinds: the machine, what is attached to it, the watch
+/// tables and the lines are those of that session; the keys and the files are the present ones, and so is what is still
+/// to come on lines, less one listening for each port. And a SAVE in which no call on a file fails leaves such a file.
 pub fn restore_puts_back()
     ensures { RestorePutsBack }
 {}

@@ -77,7 +77,7 @@ new-kinds None units = reset-kinds units
 new-kinds (Some number) units = reset-kinds units
 
 pub new-standard : (workload : Option ℕ) (units : List UnitState) → IsStandard units → AreStandard (with_workload workload (new_machine units)).units
-new-standard workload units is = new-kinds workload units ∙ ap kinds_of is
+new-standard workload units is = inl (new-kinds workload units ∙ ap kinds_of is)
 
 no-closing : (workload : Option ℕ) (units : List UnitState) (live : Live) (n : CommandNote) → live.machine ≡ erased (with_workload workload (new_machine units)) → IsLate live n → ⊥
 no-closing workload units live n new closing =

@@ -1,5 +1,5 @@
 -- The session that the program begins is what every session is, and what is left is in range.
-use Rattle.std.proofs.Common.{◌≡◌, ℕ, zero, suc, ◌+◌, ◌^◌, ◌<◌, ◌≤◌, ◌&&◌, ◌==◌, nat_lt, nat_le, Bool, true, false, List, [], ◌∷◌, ◌++◌, length, take, drop, map, Option, Some, None, IfSome, option_map, unwrap_or, Result, Ok, Err, if◌then◌else◌, refl, sym, subst, ◌∙◌, arith, length-take}
+use Rattle.std.proofs.Common.{◌≡◌, inl, ℕ, zero, suc, ◌+◌, ◌^◌, ◌<◌, ◌≤◌, ◌&&◌, ◌==◌, nat_lt, nat_le, Bool, true, false, List, [], ◌∷◌, ◌++◌, length, take, drop, map, Option, Some, None, IfSome, option_map, unwrap_or, Result, Ok, Err, if◌then◌else◌, refl, sym, subst, ◌∙◌, arith, length-take}
 use Rattle.std.specs.List.{AllByRecursion, list_all, position}
 use Rattle.std.specs.Option.{option_and_then}
 use Rattle.std.proofs.lemmas.Bool.{and_parts, ltb-true}
@@ -19,13 +19,13 @@ use Rattle.expect_actions.proofs.AnswerLemmas.{computed_answers}
 use Rattle.host_lines.specs.Traffic.{Peer, Gone, Ahead}
 use Rattle.telnet_lines.specs.Line.{LineOf, unconnected, renamed}
 use Rattle.unit_files.specs.Attachments.{Held}
-use Rattle.nova_machine.specs.Machine.{MachineState, lines_for, reset_devices, reset_machine, new_machine}
+use Rattle.nova_machine.specs.Machine.{MachineState, lines_for, place_of as line_place, reset_devices, reset_machine, new_machine}
 use Rattle.nova_machine.specs.Seen.{unnumbered, erased}
 use Rattle.nova_machine.specs.Valid.{AreBytes, HasByteName, ValidMachine, ValidLine, DiskIsItsFile}
 use Rattle.machine_laws.proofs.StayingValid.{runs-stay-valid, kinds-begin}
 use Rattle.machine_laws.proofs.ValidBytes.{AreFiles}
 use Rattle.nova_machine.proofs.Each.{every-append, every-take, every-drop}
-use Rattle.terminal_ports.specs.Ports.{HaveNone}
+use Rattle.terminal_ports.specs.Ports.{HaveNone, AreNumbered}
 use Rattle.command_session.proofs.PortLemmas.{apart-free}
 use Rattle.command_laws.specs.Valid.{IsProgramMachine}
 use Rattle.command_laws.proofs.ValidWatch.{read-bytes}
@@ -265,11 +265,12 @@ record IsFresh (m : MachineState) : Type 0 where
   own : IsProgramMachine (erased m)
   count : length m.lines ≡ length (lines_for m.units)
   free : HaveNone m.lines
+  numbered : AreNumbered (drop (line_place 1) (map (renamed {Q = Peer} (λ _. Gone)) m.lines))
 
 first-fresh : (workload : Option ℕ) → IsFresh (first_machine workload)
 unfolding first_machine new_machine reset_machine reset_devices
-first-fresh None = record { time = refl; taken = refl; disk = λ files keys ahead. refl; lines = (empty-line, (empty-line, tt)); own = record { units = reset-kinds standard_units; numbers = refl; aside = refl; lines = refl }; count = refl; free = (refl, (refl, tt)) }
-first-fresh (Some number) = record { time = refl; taken = refl; disk = λ files keys ahead. refl; lines = (empty-line, (empty-line, tt)); own = record { units = reset-kinds standard_units; numbers = refl; aside = refl; lines = refl }; count = refl; free = (refl, (refl, tt)) }
+first-fresh None = record { time = refl; taken = refl; disk = λ files keys ahead. refl; lines = (empty-line, (empty-line, tt)); own = record { units = inl (reset-kinds standard_units); numbers = refl; aside = refl; lines = refl }; count = refl; free = (refl, (refl, tt)); numbered = tt }
+first-fresh (Some number) = record { time = refl; taken = refl; disk = λ files keys ahead. refl; lines = (empty-line, (empty-line, tt)); own = record { units = inl (reset-kinds standard_units); numbers = refl; aside = refl; lines = refl }; count = refl; free = (refl, (refl, tt)); numbered = tt }
 
 -- ---- the session
 
@@ -321,6 +322,7 @@ opening-good words options keys script files ahead input notes handed good =
           machine = fresh.own;
           count = length-map m.lines (renamed {Q = Peer} (λ _. Gone)) ∙ fresh.count;
           ports = apart-free (map (renamed {Q = Peer} (λ _. Gone)) m.lines) (none-seen m.lines fresh.free);
+          numbered = fresh.numbered;
         };
         texts = record { few = omega arith; actions = tt; open_ = first.few; scripts = first.each };
         input = handed.read;

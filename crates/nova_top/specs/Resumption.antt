@@ -59,9 +59,10 @@ pub record EndsAsThat (t : Session) (front : List (Observation State)) (left bef
   pub heard : new.lines.sent ≡ heard_with old.lines.sent (sent_of front ++ sent_of (trace t).made)
 
 -- Wherever the program comes to a RESTORE that is done while no action waits and no script is open, and whose file has the
--- text of a session that was saved, all from there on is as the definition of a session has it that begins at that one. The
--- rest of the input, the budget, the limit of a run, the prompt, the keys and what is to come on lines are the present ones.
--- What was handed in is of bytes, as all is that a program can be handed.
+-- text, in either version, of a session that was saved with units of the same kinds, all from there on is as the definition of
+-- a session has it that begins at that one. The rest of the input, the budget, the limit of a run, the prompt, the keys and
+-- what is to come on lines, less the listenings on the ports of that one, are the present ones. What was handed in is of
+-- bytes, as all is that a program can be handed.
 abbrev pub ResumesSaved : List (List ℕ) → List ℕ → List ℕ → List ℕ → List ℕ → Beyond → Beyond → ℕ → Option MachineState → List Note → Type 0
 ResumesSaved words input left before after old new status machine notes =
     (front : List (Observation State)) (at behind : Session) (s : Live) (used : ℕ) → AreHandedBytes words input old.files (ahead_of old.lines.told old.whole)

@@ -64,8 +64,9 @@ pub struct Ending<U: Unit> {
 /// written back, which is status 107 at the end of the input.
 ///
 /// The machine has its console line and the line of its second teletype, both without a port. ATTACH gives the second
-/// one a port of `lines`. At EXIT and at the end of the input, where no file had to be kept, that is given up with its
-/// connection; at any other end, and behind the workload of `-g`, it stays.
+/// one a port of `lines`, and RESTORE gives both the ports that were saved. At EXIT and at the end of the input, where
+/// no file had to be kept, that of the second teletype is given up with its connection; at any other end, and behind
+/// the workload of `-g`, it stays. That of the console line stays at every end.
 pub fn simulate<U: Unit, C: Source, S: Sink, F: Files, L: Lines>(
     alloc: Global,
     words: &[String],

@@ -1,8 +1,9 @@
 -- What a RESTORE that is done has put back.
-use Rattle.std.proofs.Common.{◌≡◌, ◌∙◌, ap, ℕ, Bool, List, Ok, Err, OnOk}
+use Rattle.std.proofs.Common.{◌≡◌, ◌∙◌, ap, subst, ℕ, Bool, false, List, Ok, Err, OnOk}
 use Rattle.file_traits.specs.Lists.{NamedBytes}
 use Rattle.nova_machine.specs.Machine.{MachineState}
-use Rattle.state_transfer.specs.Listening.{with_port as ported_by}
+use Rattle.state_transfer.specs.Ports.{assigned, with_ports}
+use Rattle.state_transfer.specs.PutBack.{misses_unit}
 use Rattle.state_transfer.specs.Putting.{with_machine_of}
 use Rattle.scp_parser.specs.Command.{Request, Restore}
 use Rattle.command_session.specs.Live.{CommandState}
@@ -27,11 +28,12 @@ back-in-room tells files (Restore force name) (Ok next) old room new same back =
   saved = back.saved;
   valid = back.valid;
   read = back.read;
+  found = subst (λ (m : MachineState). misses_unit back.saved.machine m.units ≡ false) same back.found;
   machine = back.machine ∙ ap (λ (m : MachineState). record (with_machine_of m back.saved.machine) {
     slots = new.machine.slots;
     disk = new.machine.disk;
     aside = new.machine.aside;
-    lines = ported_by back.saved.port m.lines;
+    lines = with_ports (assigned back.saved.ports m.lines) m.lines;
   }) same;
   attached = back.attached;
   watch = back.watch;

@@ -60,10 +60,11 @@ use Rattle.plain_commands.specs.SetEffects.{set_size_reply, set_autobit_reply}
 use Rattle.plain_commands.specs.ScriptEffects.{test_answer, echo_reply, assert_reply, goto_reply}
 use Rattle.host_commands.specs.DoEffects.{do_answer, do_reply}
 use Rattle.command_session.specs.WholeCalls.{whole_calls, write_calls, wrote_answer}
-use Rattle.state_commands.specs.StateEffects.{unit_claim, flushed_with, save_by, save_reply, heard_live, listened_back, ported_back, restored_by, restored_as, restored_from, restore_reply}
+use Rattle.state_commands.specs.StateEffects.{unit_claim, flushed_with, save_by, save_reply, listening_each, heard_live, listened_back, restored_by, unless_missing, restored_as, restored_from, restore_reply}
 use Rattle.command_session.specs.Occupied.{is_occupied}
 use Rattle.state_text.specs.declared.fault.StateFault.{StateFault}
-use Rattle.state_transfer.specs.Listening.{wants_port}
+use Rattle.state_transfer.specs.Ports.{ports_wanted}
+use Rattle.state_transfer.specs.PutBack.{misses_unit}
 use Rattle.saved_session.specs.Parts.{State}
 use Rattle.state_text.specs.Reading.{reading}
 use Rattle.saved_files.specs.Putting.{FileRefusal}
@@ -571,11 +572,11 @@ fair-listened_back force name said used s live = by said.answer
 fair-restored : (force : Bool) (name : List ℕ) (o : Option (UnitName × FileRefusal)) (used : ℕ) (s : State) (live : Live)
     → Fair false (LeavesTraces (request.Restore force name)) live (restored_by o used s live)
 fair-restored force name (Some refusal) used s live = fair-ends _ _ live
-fair-restored force name None used s live = by-port (wants_port s.port live.lines)
-  where
-    by-port : (b : Bool) → Fair false (LeavesTraces (request.Restore force name)) live (ported_back b used s live)
-    by-port true = fair-listened_back force name (listening live.ahead) used s live
-    by-port false = fair-done used live _
+fair-restored force name None used s live = fair-listened_back force name (listening_each (ports_wanted s.ports live.lines) live.ahead) used s live
+
+fair-missing : {W : CommandFault → Type 0} (b : Bool) (used : ℕ) (live : Live) (reply : Reply) → Fair false W live reply → Fair false W live (unless_missing b used live reply)
+fair-missing true used live reply fair = fair-ends _ used live
+fair-missing false used live reply fair = fair
 
 fair-restore : (notes : List CommandNote) (live : Live) (force : Bool) (name : List ℕ) → Fair false (LeavesTraces (request.Restore force name)) live (restore_reply notes live force name)
 unfolding restore_reply
@@ -585,7 +586,7 @@ fair-restore notes live force name =
   where
     by-state : (r : Result State StateFault) (used : ℕ) → Fair false (LeavesTraces (request.Restore force name)) live (restored_as force used (drop used notes) r live)
     by-state (Err fault) used = fair-ends _ used live
-    by-state (Ok s) used = fair-restored force name _ used s live
+    by-state (Ok s) used = fair-missing (misses_unit s.machine live.machine.units) used live _ (fair-restored force name _ used s live)
 
     by-said : (said : WholeSaid) (used : ℕ) → Fair false (LeavesTraces (request.Restore force name)) live (restored_from force (said, used) notes live)
     by-said (WholeIs bytes) used = by-state (reading bytes) used

@@ -5,3 +5,4 @@ pub mod CanLemmas
 pub mod WorkLemmas
 pub mod BackLemmas
 pub mod AnswerLemmas
+pub mod KindLemmas

@@ -49,10 +49,11 @@ use unit_trait::Unit;
 /// disk's copy back: it comes where the room for 16 notes can't be taken, and from BREAK, EXPECT, ATTACH, DO, LOAD,
 /// DUMP, SAVE and RESTORE. A closing that fails then in DO, LOAD or RESTORE is noted.
 ///
-/// The machine has the ten units of a standard one, and keeps them.
+/// The machine has the units of a standard one, with the multiplexer or without, and keeps them.
 ///
 /// `lines` are the ports and connections of the host. Runs poll them for the machine's terminal lines; ATTACH of the
-/// second teletype listens on a port, which may fail and is counted then, and DETACH, DETACH ALL and EXIT give it up.
+/// second teletype listens on a port, and RESTORE on those of its session, which may fail and is counted then. DETACH,
+/// DETACH ALL and EXIT give up the port of the second teletype, and no other.
 pub fn execute<U: Unit, F: Files, L: Lines, S: Sink>(
     alloc: Global,
     session: &mut Session<U>,
@@ -108,6 +109,7 @@ pub fn execute<U: Unit, F: Files, L: Lines, S: Sink>(
     ensures limit { session.new.limit ≡ session.old.limit }
     ensures command { session.new.command ≡ session.old.command }
     ensures standard { AreStandard session.new.machine.units }
+    ensures kinds { kinds_of session.new.machine.units ≡ kinds_of session.old.machine.units }
     ensures counts { ConsoleCounts result (S.fault_count out.old) (S.fault_count out.new) }
     ensures ran { RunCause result session.old.machine.slots (F.state files.old) (F.state files.new) }
     ensures stopped { RunStops (is_step command.now session.old.limit) (run_count command.now session.old.limit) result

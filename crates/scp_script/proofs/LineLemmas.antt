@@ -1,5 +1,5 @@
 -- One text of a session, by what it came to.
-use Rattle.std.proofs.Common.{Option, Some, None, ◌≡◌, inr, ℕ, ◌+◌, ◌-◌, ◌<◌, ◌≤◌, Bool, true, false, IsTrue, List, [], ◌∷◌, ◌++◌, length, take, drop, refl, ap, sym, ◌∙◌, subst, arith, append_assoc, append-nil, zero-add, add-zero, length-take-le, nat_le, if◌then◌else◌, Some, None, Ok, Err}
+use Rattle.std.proofs.Common.{Option, Some, None, ◌≡◌, inl, inr, ℕ, ◌+◌, ◌-◌, ◌<◌, ◌≤◌, Bool, true, false, IsTrue, List, [], ◌∷◌, ◌++◌, length, take, drop, refl, ap, sym, ◌∙◌, subst, arith, append_assoc, append-nil, zero-add, add-zero, length-take-le, nat_le, if◌then◌else◌, Some, None, Ok, Err}
 use Rattle.std.proofs.lemmas.Bool.{le-leb, leb-false, cond_both}
 use Rattle.file_traits.specs.Streams.{AddsPart}
 use Rattle.observations.specs.Observations.{Observation, Prints, Reads, Trace, text_of, reads_of, sent_of, map_made}
@@ -29,7 +29,7 @@ use Rattle.session_texts.specs.Actions.{Texts, texts_of, texts_behind}
 use Rattle.unit_trait.specs.declared.kind.UnitName.{UnitName}
 use Rattle.scp_script.specs.Session as ends
 use Rattle.scp_script.specs.Session.{emptied_in, input_end, State, Session, Upcoming, SessionEnd, ExitDone, AllDone, InputEnded, BudgetSpent, end_status, state_of, state_at, flushes_in, closed, end_state, rested, going_on, Over, Ends, Comes, prompt_text, asking_input, asking, upcoming, text_reply, following, text_step, step, over_by, course, trace}
-use Rattle.scp_script.specs.Loop.{exit_of, IsAnswer, AreClosings, AreShort, IsShort, LetsThrough, status_of, finish_of, Finishes, Progresses}
+use Rattle.scp_script.specs.Loop.{exit_of, IsAnswer, AreClosings, AreShort, AsksRestore, HasListened, HasListenedAt, IsShort, LetsThrough, status_of, finish_of, Finishes, Progresses}
 use Rattle.scp_script.proofs.TextLemmas.{text-reads}
 use Rattle.scp_script.proofs.SessionLemmas.{arrival-paid, trace-is, trace-asks, trace-begins, asking-sent, course-over, step-comes, step-over, upcoming-input, upcoming-done, asking-is, asking-done}
 
@@ -465,7 +465,11 @@ answered old behind new text what used (IsOver Console) tells before mid after t
     }
 answered old behind new text what used (IsOver OutOfMemory) tells before mid after told e c still b asks quiet notes reads a short = record {
   short = record {
-    live_is = subst (λ (b : Bool). Remains b old.live new.live) (sym (ap flushes_in e ∙ ap flushes_of c)) short.0;
+    live_is = elim short.0 [
+      | inl left ↦ inl (subst (λ (b : Bool). Remains b old.live new.live) (sym (ap flushes_in e ∙ ap flushes_of c)) left)
+      | inr heard ↦ inr (subst (λ (u : Upcoming). HasListenedAt u old.live new.live) (sym e)
+          (subst (λ (a : Asked). AsksRestore a × HasListened old.live new.live) (sym c) heard))
+    ];
     notes = subst (λ (u : Upcoming). AreShort u old.notes) (sym e) (subst (λ (a : Asked). AreClosings (reader_of a) behind.spent old.notes) (sym c) short.1);
     written = inr (ap (λ (o : Output). o.console) short.2 ∙ asks);
     heard = ap (λ (o : Output). o.heard) short.2 ∙ quiet;

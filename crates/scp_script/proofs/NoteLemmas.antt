@@ -1,5 +1,5 @@
 -- A line with the notes that were kept in it: what is handed to its text, and what is left.
-use Rattle.std.proofs.Common.{Option, Some, None, ◌≡◌, ◌≢◌, ◌⊎◌, ℕ, ◌-◌, ◌<◌, ◌≤◌, Bool, true, IsTrue, List, [], ◌∷◌, ◌++◌, length, drop, take, option_map, slice_get, refl, ap, sym, ◌∙◌, subst, arith, append_assoc, append-nil, inl}
+use Rattle.std.proofs.Common.{Option, Some, None, ◌≡◌, ◌≢◌, ◌⊎◌, ℕ, ◌-◌, ◌<◌, ◌≤◌, Bool, true, IsTrue, List, [], ◌∷◌, ◌++◌, length, drop, take, option_map, slice_get, refl, ap, sym, ◌∙◌, subst, arith, append_assoc, append-nil, inl, inr}
 use Rattle.std.proofs.Math.Seq.{take-append_seam}
 use Rattle.expect_actions.specs.Actions.{first_written}
 use Rattle.fault_counts.specs.Faults.{raised}
@@ -31,7 +31,7 @@ use Rattle.session_texts.specs.Reading.{AreRead}
 use Rattle.session_texts.specs.Scripts.{Script, still_open, cost_of_line, text_of_line, echo_text, past_line}
 use Rattle.session_texts.specs.Actions.{texts_of, texts_behind}
 use Rattle.scp_script.specs.Session.{State, Session, spent_more, Upcoming, Ends, Comes, Step, flushes_in, flushes_next, Course, prompt_text, asking, behind_line, behind_script_line, behind_action, upcoming, emptied_in, closed, text_reply, course, trace}
-use Rattle.scp_script.specs.Loop.{session_of, IsAnswer, AreClosings, AreShort, IsShort, Answers, AnswerCounts, HasExitStatus, status_of, finish_of, EndsAs, Finishes, MayFollow, MayCome, StopsShort, RunsOut, Progresses, ProgressCause, Stepped, KeptInLine}
+use Rattle.scp_script.specs.Loop.{session_of, IsAnswer, AreClosings, AreShort, HasListenedAt, IsShort, Answers, AnswerCounts, HasExitStatus, status_of, finish_of, EndsAs, Finishes, MayFollow, MayCome, StopsShort, RunsOut, Progresses, ProgressCause, Stepped, KeptInLine}
 use Rattle.scp_script.proofs.SessionLemmas.{arrival-paid, upcoming-input, upcoming-script, asking-script, upcoming-action, asking-action, trace-is, closing, asking-still, upcoming-still, step-still, course-still}
 use Rattle.scp_script.proofs.LineLemmas.{none-read, comes-reads, asking-text, asking-reads, IsBehind, answered, input_finish, input-ended}
 
@@ -294,7 +294,7 @@ none-short (Comes text behind) notes none = by-reader (reader_of (asked text))
 -- memory ran out before a text was asked for
 pub room-refused : (old new : Session) (before : Output) → old.notes ≡ [] → new ≡ old → RunsOut old new before before
 room-refused old new before none same = subst (λ (x : Session). RunsOut old x before before) (sym same) (record {
-  short = record { live_is = remains (flushes_next old) old.live old.live refl; notes = none-short (upcoming old) old.notes none; written = inl refl; heard = refl };
+  short = record { live_is = inl (remains (flushes_next old) old.live old.live refl); notes = none-short (upcoming old) old.notes none; written = inl refl; heard = refl };
   made = 0;
   few = omega arith;
   reads = none-read old.open_ old.input;
@@ -304,7 +304,10 @@ room-refused old new before none same = subst (λ (x : Session). RunsOut old x b
 
 short-still : (s : Session) (live : Live) (before after : Output) → s.texts.actions ≡ [] → StopsShort (closing s) live before after → StopsShort s live before after
 short-still s live before after none h = record {
-  live_is = subst (λ (u : Upcoming). Remains (flushes_in u) s.live live) (upcoming-still s none) h.live_is;
+  live_is = elim h.live_is [
+    | inl left ↦ inl (subst (λ (u : Upcoming). Remains (flushes_in u) s.live live) (upcoming-still s none) left)
+    | inr heard ↦ inr (subst (λ (u : Upcoming). HasListenedAt u s.live live) (upcoming-still s none) heard)
+  ];
   notes = subst (λ (u : Upcoming). AreShort u s.notes) (upcoming-still s none) h.notes;
   written = subst (λ (l : List (Observation State)). (after.console ≡ before.console) ⊎ (after.console ≡ before.console ++ text_of l)) (asking-still s none) h.written;
   heard = h.heard;

@@ -12,13 +12,13 @@ use Rattle.nova_machine.specs.Comes.{Output}
 use Rattle.command_session.specs.Live.{Live}
 use Rattle.command_session.specs.Asked.{Asked}
 use Rattle.command_session.specs.FaultText.{fault_text}
-use Rattle.command_session.specs.Remains.{Remains, flushes_of, reader_of}
+use Rattle.command_session.specs.Remains.{reader_of}
 use Rattle.command_session.specs.Doing.{says_files, IsShutNote, NotesRemain}
 use Rattle.command_session.proofs.CloseLemmas.{said-append}
 use Rattle.scp_script.specs.declared.progress.Progress.{Progress}
 use Rattle.scp_script.specs.declared.progress.Progress.TheVariants.{GoesOn, IsOver}
 use Rattle.scp_script.specs.declared.progress.Finish.TheVariants.{Exit, EndOfInput, FlushFailed, Commands, Console, Input, OutOfMemory}
-use Rattle.scp_script.specs.Loop.{AreClosings, IsShort, Complains, Denies}
+use Rattle.scp_script.specs.Loop.{AreClosings, StandsShort, IsShort, Complains, Denies}
 use Rattle.command_session.specs.Nature.{nature}
 use Rattle.scp_script.specs.Used.{FilesTold}
 use Rattle.scp_script.proofs.TextLemmas.{same-output}
@@ -62,7 +62,7 @@ complained-short what number (IsOver Input) tells old new own before mid after t
 
 -- what stands behind a command that was refused, where it was for that
 pub refused-short : (what : Asked) (number : ℕ) (why : CommandFault) (result : Progress) (tells : Bool) (old new : Live) (own : List Note) (before mid after : Output) (sink sink_now : ℕ)
-    → (why ≡ fault.OutOfMemory → Remains (flushes_of what) old new × AreClosings (reader_of what) number own × (mid ≡ before))
+    → (why ≡ fault.OutOfMemory → StandsShort what old new × AreClosings (reader_of what) number own × (mid ≡ before))
     → after.heard ≡ mid.heard → Denies why tells result mid.console after.console sink sink_now → IsShort what number result old new own before after
 refused-short what number fault.OutOfMemory result tells old new own before mid after sink sink_now left heard told =
     let all = left refl in

@@ -23,7 +23,7 @@ ghost use Rattle.session_texts.specs.Scripts.{checked, arguments_of, label_of, b
 ghost use Rattle.session_texts.specs.Actions.{texts_of, coming, texts_behind, behind_refusal};
 ghost use Rattle.session_texts.specs.Actions.{text_of_stop, put_first, overflow_text};
 ghost use Rattle.scp_script.specs.Session.{text_reply};
-ghost use Rattle.scp_script.specs.Loop.{IsAnswer, Answers, AnswerCounts, HasExitStatus, AreKeptBy, IsShort};
+ghost use Rattle.scp_script.specs.Loop.{IsAnswer, Answers, AnswerCounts, HasExitStatus, AreKeptBy, AsksRestore, IsShort};
 ghost use Rattle.scp_script.specs.Loop.{Complains, Denies, Follows, FitsIn};
 ghost use Rattle.scp_script.specs.Used.{TextTold};
 ghost use Rattle.scp_script.specs.Spending.{EndOf, IsNoExit, NextOf, OpensOne};
@@ -68,8 +68,8 @@ pub fn answer<U: Unit, F: Files, L: Lines, S: Sink>(
         → StaysWhereAlone session.old session.new (F.state files.old).files (F.state files.new).files }
     ensures grows { Grows S.tells (S.written out.old) (S.written out.new) }
     ensures short { TextTold F.tells L.tells session.old.machine texts.old.scripts (asked line.now)
-        → InStep (attached_files session.old.machine) (F.state files.old).files
-        → (whole : List LineAnswer) (own : List Note)
+        → InStep (attached_files session.old.machine) (F.state files.old).files → (whole : List LineAnswer)
+        → (AsksRestore (asked line.now) → IsFirst (record_in (L.state lines.new).told) whole) → (own : List Note)
         → notes_said session.new.notes ≡ notes_said session.old.notes ++ own
         → IsShort (asked line.now) session.old.command result
         (live_in session.old (beyond (F.state files.old).files (L.state lines.old) whole))
@@ -129,8 +129,8 @@ fn obey<U: Unit, F: Files, L: Lines, S: Sink>(
         → StaysWhereAlone session.old session.new (F.state files.old).files (F.state files.new).files }
     ensures grows { Grows S.tells (S.written out.old) (S.written out.new) }
     ensures short { TextTold F.tells L.tells session.old.machine texts.old.scripts (Ok command.now)
-        → InStep (attached_files session.old.machine) (F.state files.old).files
-        → (whole : List LineAnswer) (own : List Note)
+        → InStep (attached_files session.old.machine) (F.state files.old).files → (whole : List LineAnswer)
+        → (AsksRestore (Ok command.now) → IsFirst (record_in (L.state lines.new).told) whole) → (own : List Note)
         → notes_said session.new.notes ≡ notes_said session.old.notes ++ own
         → IsShort (Ok command.now) session.old.command result
         (live_in session.old (beyond (F.state files.old).files (L.state lines.old) whole))

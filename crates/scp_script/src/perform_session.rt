@@ -55,11 +55,12 @@ pub struct Opening {
 /// there are two at most for each unit that it spends, and none where files tell. Memory is taken for those of a
 /// command before its line is read.
 ///
-/// The machine has the ten units of a standard one, and keeps them.
+/// The machine has the units of a standard one, with the multiplexer or without, and keeps them.
 ///
-/// `lines` are the ports and connections of the host: a run polls them for the machine's terminal lines, and ATTACH of
-/// the second teletype listens on a port. At EXIT and at the end of the input, where no file had to be kept, that port
-/// is given up with its connection; at any other end it stays.
+/// `lines` are the ports and connections of the host: a run polls them for the machine's terminal lines, ATTACH of the
+/// second teletype listens on a port, and RESTORE on those of its session. At EXIT and at the end of the input, where
+/// no file had to be kept, the port of the second teletype is given up with its connection; at any other end it stays,
+/// and each other port at every end.
 pub fn perform<U: Unit, C: Source, F: Files, L: Lines, S: Sink>(
     alloc: Global,
     session: &mut Session<U>,

@@ -4,3 +4,4 @@ pub mod ResumptionLemmas
 pub mod LawLemmas
 pub mod CoreLemmas
 pub mod RoomLemmas
+pub mod ListenedLemmas

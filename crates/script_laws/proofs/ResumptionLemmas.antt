@@ -1,7 +1,7 @@
 -- A session in which a saved one was restored goes on as that one, and as the one goes on that was saved.
 use Rattle.std.specs.Prelude.{None, Ok}
 use Rattle.std.specs.List.{AllByRecursion}
-use Rattle.std.proofs.Common.{◌≡◌, ◌≢◌, ℕ, zero, suc, Bool, true, false, Option, Some, if◌then◌else◌, List, [], ◌++◌, length, drop, refl, ap, sym, ◌∙◌, subst, arith, append_assoc, append-nil}
+use Rattle.std.proofs.Common.{◌≡◌, ◌≢◌, inl, ℕ, zero, suc, Bool, true, false, Option, Some, if◌then◌else◌, List, [], ◌++◌, length, drop, refl, ap, sym, ◌∙◌, subst, arith, append_assoc, append-nil}
 use Rattle.std.proofs.Math.Seq.{drop-nil}
 use Rattle.std.proofs.lemmas.Option.{same_Some}
 use Rattle.file_traits.specs.Lists.{NamedBytes, bytes_of}
@@ -28,8 +28,8 @@ use Rattle.state_commands.specs.StateEffects.{flushed_with}
 use Rattle.command_session.specs.Asked.{Asked}
 use Rattle.command_session.specs.DiskFile.{disk_alone}
 use Rattle.scp_commands.specs.Effect.{effect, does}
-use Rattle.command_laws.proofs.OwnLines.{standard-many}
-use Rattle.command_laws.specs.Resumption.{done_with, left_by_save, continued, saved_among, HasNobody, HaveLengths, IsAtRest, HoldsSaved}
+use Rattle.command_laws.proofs.OwnLines.{same-many}
+use Rattle.command_laws.specs.Resumption.{done_with, left_by_save, continued, saved_among, HasNobody, HaveLengths, IsAtRest, HoldsSaved, IsLike}
 use Rattle.command_laws.proofs.ResumptionLemmas.{restore-puts-back}
 use Rattle.scp_script.specs.declared.progress.Finish.{Finish}
 use Rattle.scp_script.specs.declared.progress.Finish.TheVariants.{Exit, EndOfInput, FlushFailed, Commands, Console, Input, OutOfMemory}
@@ -178,11 +178,12 @@ step-back at behind s used valid back =
     let r = back.restores in
     let live = comes-valid at r.line behind valid r.comes in
     let saved = back.holds.rest.session in
-    let many = live.count ∙ standard-many behind.live.machine.units s.machine.units live.machine.units saved.machine.units ∙ sym saved.count in
+    let many = live.count ∙ same-many behind.live.machine.units s.machine.units back.kinds ∙ sym saved.count in
+    let like : IsLike behind.live s = record { files = back.files; kinds = back.kinds; many = many } in
     let what : Asked = Ok (Restore back.force back.name) in
     let notes = handed behind.spent behind.notes in
-    let is = restore-puts-back.restored behind.limit notes behind.live s back.force back.name back.then_files used r.done back.holds back.files many in
-    let alone = restore-puts-back.alone behind.limit notes behind.live s back.force back.name back.then_files used r.done back.holds back.files many in
+    let is = restore-puts-back.restored behind.limit notes behind.live s back.force back.name back.then_files used r.done back.holds like in
+    let alone = restore-puts-back.alone behind.limit notes behind.live s back.force back.name back.then_files used r.done back.holds like in
     step-comes at behind r.line what r.comes r.command
     ∙ step-done (asking at) behind what used (continued s behind.live) (said-restore behind.limit behind.texts notes behind.live (continued s behind.live) back.force back.name used is)
     ∙ ap (λ (b : Bool). record { made = asking at; next = going_on b (rested (resumed s used behind)) }) alone
@@ -297,7 +298,7 @@ holds-saved behind name files rest lengths same =
     record {
       rest = rest;
       lengths = lengths;
-      bytes = ap (λ (l : List NamedBytes). bytes_of l name) same ∙ restore-puts-back.holds behind.live name ∙ ap (λ (v : SavedState). text v) (sym is);
+      bytes = inl (ap (λ (l : List NamedBytes). bytes_of l name) same ∙ restore-puts-back.holds behind.live name ∙ ap (λ (v : SavedState). text v) (sym is));
     }
 
 restores-saved : (saving behind restoring present : Session) (name : List ℕ) (used : ℕ) → ValidSession saving → DiskIsItsFile saving.live → SavedAndRestored saving behind restoring present name used
@@ -309,6 +310,7 @@ restores-saved saving behind restoring present name used valid held both = recor
   restores = both.restores;
   holds = holds-saved behind name present.live.files (rest-saved saving behind name valid held both.goes both.nobody) both.lengths both.outside.files;
   files = both.outside.files;
+  kinds = both.outside.kinds;
 }
 
 core-saved : (saving behind restoring present : Session) (name : List ℕ) (used : ℕ) → SavedAndRestored saving behind restoring present name used

@@ -35,6 +35,7 @@ use Rattle.scp_script.specs.declared.progress.Finish.TheVariants.{OutOfMemory}
 use Rattle.scp_script.specs.Perform.{IsSession, IsPerformed}
 use Rattle.script_laws.specs.Valid.{ValidTexts, ValidSession, SessionsStayValid}
 use Rattle.script_laws.proofs.RoomLemmas.{RoomFor, room-effect}
+use Rattle.script_laws.proofs.ListenedLemmas.{listened-at-valid}
 use Rattle.script_laws.proofs.LawLemmas.{lines-are-consumed}
 use Rattle.script_laws.proofs.ValidTexts.{IsValidAsked, asked-valid, checked-valid, ValidScripts, open-valid, line-bytes, past-valid, texts-valid, settled-gives, settled-room}
 
@@ -416,7 +417,10 @@ whole-left start finish live rest before after is h =
 left-valid : (start : Session) (finish : Finish) (live : Live) (rest : List ℕ) (before after : Output) → ValidSession start → IsPerformed start finish live rest before after → ValidLive live
 left-valid start OutOfMemory live rest before after is h =
     let reached = all-valid h.count start h.reached h.done is h.comes in
-    remains-valid (flushes_next h.reached) h.reached.live live reached.live h.short.live_is
+    elim h.short.live_is [
+      | inl left ↦ remains-valid (flushes_next h.reached) h.reached.live live reached.live left
+      | inr listened ↦ listened-at-valid (upcoming h.reached) h.reached.live live reached.live listened
+    ]
 left-valid start finish live rest before after is h = whole-left start finish live rest before after is h
 
 pub sessions-stay-valid : SessionsStayValid

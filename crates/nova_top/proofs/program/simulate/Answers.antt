@@ -12,6 +12,7 @@ use Rattle.file_commands.proofs.Adding.{counted-none}
 use Rattle.file_traits.specs.Lists.{NamedBytes}
 use Rattle.state_transfer.specs.SavedValid.{AreStandard}
 use Rattle.command_session.specs.Live.{CommandState, beyond}
+use Rattle.scp_commands.proofs.KindLemmas.{standard-by}
 use Rattle.scp_script.specs.Loop.{AreKeptFor}
 use Rattle.program_start.specs.declared.word_files.Refusal.{Refusal}
 use Rattle.program_start.specs.WordFiles.{AreWordClosings, NamesTold, StartsWith}
@@ -153,9 +154,9 @@ standard-units : (g : Over) (c : goal.After-run_session-arg-in-Ok-begin-2-1 g) �
 standard-units g c =
     let units = map g.U.Unit.unit_state c.args.units.items in
     let workload = c.in-Some.options.workload in
-    ap (λ (s : CommandState). kinds_of s.machine.units) c.ready.ensures
-    ∙ ap (λ (m : MachineState). kinds_of (with_workload workload m).units) (ap (λ (s : CommandState). s.machine) c.session.view_is ∙ (made g c).machine)
-    ∙ new-standard workload units c.requires
+    standard-by _ _ (new-standard workload units c.requires)
+    (ap (λ (s : CommandState). kinds_of s.machine.units) c.ready.ensures
+    ∙ ap (λ (m : MachineState). kinds_of (with_workload workload m).units) (ap (λ (s : CommandState). s.machine) c.session.view_is ∙ (made g c).machine))
 
 -- where the session reads the input, no workload is among the words
 told-input : (g : Over) (c : goal.After-run_session-arg-in-Ok-begin-2-1 g) → InputTells (texts_of c.args.words.now) g.C.Source.tells → c.open_with-opening.result.reads ≡ true → IsTrue g.C.Source.tells

@@ -1,6 +1,7 @@
-use Rattle.std.proofs.Common.{ap, refl, Err}
+use Rattle.std.proofs.Common.{ap, refl, ◌∙◌, Err}
 use Rattle.file_commands.specs.Notes.{notes_said}
 use Rattle.command_session.specs.Live.{CommandState, live_in, beyond}
+use Rattle.unit_list.specs.Bus.{kinds_of}
 use Rattle.nova_machine.specs.Machine.{attached_files}
 use Rattle.nova_machine.specs.Comes.{output}
 use Rattle.command_session.specs.declared.fault.CommandFault.TheVariants.{OutOfMemory}
@@ -13,6 +14,7 @@ use Rattle.command_session.proofs.StepLemmas.{step-unchanged, stays-alone}
 use Rattle.command_session.proofs.GrowLemmas.{grows-same}
 use Rattle.scp_commands.proofs.ObeyLemmas.{may-want, none-measured, want-kept}
 use Rattle.scp_commands.proofs.BackLemmas.{back-in-room}
+use Rattle.scp_commands.proofs.KindLemmas.{standard-by}
 use Rattle.scp_commands.proofs.WorkLemmas.{none-works, works-in-room}
 use Rattle.scp_commands.proofs.execute_command.execute.Goals as goal
 
@@ -79,3 +81,18 @@ returns-in-Err-clause-step g c = λ told.
 
 pub returns-in-Err-clause-grows : goal.returns-in-Err-clause-grows
 returns-in-Err-clause-grows g c = grows-same g.S.Sink.tells (g.S.Sink.written c.args.out.now) (g.S.Sink.written c.args.out.now) refl
+
+-- ---- the units
+
+pub returns-in-Err-clause-kinds : goal.returns-in-Err-clause-kinds
+returns-in-Err-clause-kinds g c = ap (λ (x : CommandState). kinds_of x.machine.units) c.in-Err.ensures.rest
+
+pub returns-in-Ok-clause-kinds : goal.returns-in-Ok-clause-kinds
+returns-in-Ok-clause-kinds g c = c.obey.ensures.kinds ∙ ap (λ (x : CommandState). kinds_of x.machine.units) c.take_room.ensures.rest
+
+pub returns-in-Err-clause-standard : goal.returns-in-Err-clause-standard
+returns-in-Err-clause-standard g c = standard-by _ _ c.requires.standard (ap (λ (x : CommandState). kinds_of x.machine.units) c.in-Err.ensures.rest)
+
+pub returns-in-Ok-clause-standard : goal.returns-in-Ok-clause-standard
+returns-in-Ok-clause-standard g c =
+    standard-by _ _ c.requires.standard (c.obey.ensures.kinds ∙ ap (λ (x : CommandState). kinds_of x.machine.units) c.take_room.ensures.rest)

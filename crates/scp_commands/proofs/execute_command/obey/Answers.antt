@@ -16,6 +16,7 @@ use Rattle.state_commands.specs.StateAnswers.{PutsSessionBack}
 use Rattle.command_session.specs.LinesLeft.{IsUnlistened, ListenCause}
 use Rattle.command_session.specs.Refusals.{IsUnrefused, IsMeasured}
 use Rattle.scp_commands.proofs.BackLemmas.{done-back}
+use Rattle.scp_commands.proofs.KindLemmas.{kinds-left}
 use Rattle.command_session.proofs.RemainLemmas.{undone-as}
 use Rattle.command_session.proofs.StepLemmas.{stays-alone}
 use Rattle.command_session.proofs.GrowLemmas.{grows-same}
@@ -230,3 +231,10 @@ returns-in-Save-clause-untold g c = λ untold.
 pub returns-in-Restore-clause-untold : goal.returns-in-Restore-clause-untold
 returns-in-Restore-clause-untold g c = λ untold.
     let is = subst IsUntold (sym c.command.view_is ∙ ap (request_of _) c.in-Restore.is) untold in absurd (cc is.0)
+
+-- ---- the kinds of the units
+
+pub returns-in-Restore-clause-kinds : goal.returns-in-Restore-clause-kinds
+returns-in-Restore-clause-kinds g c =
+    kinds-left g.F.Files.tells (g.F.Files.state c.args.files.now).files c.file_name-in-Restore.result.now c.restore.result c.args.session.now c.restore.new.session
+    c.requires.standard c.restore.ensures.own c.restore.ensures.back c.restore.ensures.refused

@@ -1,13 +1,14 @@
 use Rattle.std.proofs.Common.{Ok, Err, refl, ap, sym, ◌∙◌, subst}
 use Rattle.file_commands.specs.Notes.{notes_said}
 use Rattle.command_session.specs.declared.fault.CommandFault.{CommandFault}
+use Rattle.host_lines.specs.Told.{IsFirst, record_in}
 use Rattle.nova_machine.specs.Comes.{output}
 use Rattle.command_session.specs.Live.{live_in, beyond}
 use Rattle.command_session.specs.Asked.{Asked, asked}
 use Rattle.command_session.proofs.AskedLemmas.{asked-as}
 use Rattle.command_session.proofs.PortLemmas.{left-same}
 use Rattle.session_texts.specs.Scripts.{checked}
-use Rattle.scp_script.specs.Loop.{Answers, AreKeptBy, IsShort}
+use Rattle.scp_script.specs.Loop.{Answers, AreKeptBy, AsksRestore, IsShort}
 use Rattle.session_texts.specs.Actions.{coming}
 use Rattle.scp_script.specs.Used.{TextTold}
 use Rattle.scp_script.specs.Spending.{EndOf}
@@ -42,7 +43,7 @@ returns-in-Err-clause-told g c = λ used apart step whole first.
     (λ behind. c.deny_line.ensures.told around ports.sent behind (asked c.args.line.now) (ap (checked texts.scripts) is))
 
 pub returns-in-Ok-clause-short : goal.returns-in-Ok-clause-short
-returns-in-Ok-clause-short g c = λ used step whole own noted.
+returns-in-Ok-clause-short g c = λ used step whole first own noted.
     let session = c.args.session.now in
     let ports = g.L.Lines.state c.args.lines.now in
     let ports' = g.L.Lines.state c.obey.new.lines in
@@ -50,10 +51,11 @@ returns-in-Ok-clause-short g c = λ used step whole own noted.
     subst (λ (a : Asked). IsShort a session.command c.obey.result (live_in session (beyond (g.F.Files.state c.args.files.now).files ports whole))
     (live_in c.obey.new.session (beyond (g.F.Files.state c.obey.new.files).files ports' whole)) own (output (g.S.Sink.written c.args.out.now) ports.sent)
     (output (g.S.Sink.written c.obey.new.out) ports'.sent))
-    (sym is) (c.obey.ensures.short (subst (λ (a : Asked). TextTold g.F.Files.tells g.L.Lines.tells session.machine c.args.texts.now.scripts a) is used) step whole own noted)
+    (sym is) (c.obey.ensures.short (subst (λ (a : Asked). TextTold g.F.Files.tells g.L.Lines.tells session.machine c.args.texts.now.scripts a) is used) step whole
+    (subst (λ (a : Asked). AsksRestore a → IsFirst (record_in ports'.told) whole) is first) own noted)
 
 pub returns-in-Err-clause-short : goal.returns-in-Err-clause-short
-returns-in-Err-clause-short g c = λ used step whole own is.
+returns-in-Err-clause-short g c = λ used step whole first own is.
     let session = c.args.session.now in
     let ports = g.L.Lines.state c.args.lines.now in
     let live = live_in session (beyond (g.F.Files.state c.args.files.now).files ports whole) in

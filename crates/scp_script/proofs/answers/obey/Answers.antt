@@ -1,13 +1,12 @@
-use Rattle.std.proofs.Common.{◌≡◌, [], ◌++◌, length, Ok, Err, refl, ap, sym, subst}
+use Rattle.std.proofs.Common.{◌≡◌, inl, [], ◌++◌, length, Ok, Err, refl, ap, sym, subst}
 use Rattle.file_commands.specs.Notes.{notes_said}
 use Rattle.nova_machine.specs.Comes.{output}
 use Rattle.nova_machine.specs.LineChanges.{ports_of}
-use Rattle.command_session.specs.Live.{Live, CommandState, live_in, beyond, standing}
+use Rattle.command_session.specs.Live.{CommandState, live_in, beyond, standing}
 use Rattle.scp_commands.specs.Effect.{effect}
 use Rattle.command_session.specs.Nature.{nature, IsUntold}
 use Rattle.command_session.specs.declared.fault.CommandFault.{CommandFault}
 use Rattle.command_session.specs.declared.fault.CommandFault.TheVariants as fault
-use Rattle.command_session.specs.Remains.{Remains}
 use Rattle.command_session.specs.LinesLeft.{ListenCause}
 use Rattle.command_session.proofs.RemainLemmas.{remains, notes-remain}
 use Rattle.command_session.proofs.PortLemmas.{left-same}
@@ -17,7 +16,7 @@ use Rattle.session_texts.specs.Actions.{Texts, coming}
 use Rattle.scp_script.proofs.TextLemmas.{answers-of, answers-none, denied}
 use Rattle.scp_script.proofs.UsedLemmas.{as-command, command-told, still-lines}
 use Rattle.scp_script.proofs.UndoneLemmas.{says, short-notes, refused-short}
-use Rattle.scp_script.proofs.PortLemmas.{IsUnasked, still-seen, live-still}
+use Rattle.scp_script.proofs.PortLemmas.{IsUnasked, still-sent, short-stands}
 use Rattle.scp_script.proofs.NoteLemmas.{never-short}
 use Rattle.scp_script.proofs.GrowLemmas.{denied-grows, stays-same, steps-if}
 use Rattle.scp_script.proofs.NextLemmas.{IsPlain, room-next, exit-next, untold-next, untold-plain}
@@ -82,7 +81,7 @@ returns-in-Err-clause-told g c = λ used apart step whole first.
     (g.S.Sink.fault_count c.execute.new.out) (g.S.Sink.fault_count c.refuse.new.out) c.refuse.ensures.texts refl does c.refuse.ensures.told)
 
 pub returns-then-is_too_deep-clause-short : goal.returns-then-is_too_deep-clause-short
-returns-then-is_too_deep-clause-short g c = λ used step whole own is.
+returns-then-is_too_deep-clause-short g c = λ used step whole first own is.
     let session = c.args.session.now in
     let ports = g.L.Lines.state c.args.lines.now in
     let live = live_in session (beyond (g.F.Files.state c.args.files.now).files ports whole) in
@@ -90,18 +89,18 @@ returns-then-is_too_deep-clause-short g c = λ used step whole own is.
     c.deny_line.ensures.memory
 
 pub returns-in_default-clause-short : goal.returns-in_default-clause-short
-returns-in_default-clause-short g c = λ used step whole own is.
+returns-in_default-clause-short g c = λ used step whole first own is.
     let session = c.args.session.now in
     let live = live_in session (beyond (g.F.Files.state c.args.files.now).files (g.L.Lines.state c.args.lines.now) whole) in
     let n = nature c.args.command.now in (
-      remains n.flushes live live refl,
+      inl (remains n.flushes live live refl),
       short-notes n.reads_whole session.command session.machine.time session.notes session.notes own
           (notes-remain n.reads_whole session.command session.machine.time session.notes session.notes refl) is,
       refl,
     )
 
 pub returns-clause-short : goal.returns-clause-short
-returns-clause-short g c = λ used step whole own is.
+returns-clause-short g c = λ used step whole first own is.
     let session = c.args.session.now in
     let ports = g.L.Lines.state c.args.lines.now in
     let ports' = g.L.Lines.state c.execute.new.lines in
@@ -109,9 +108,9 @@ returns-clause-short g c = λ used step whole own is.
     (live_in c.execute.new.session (beyond (g.F.Files.state c.execute.new.files).files ports' whole)) own (output (g.S.Sink.written c.args.out.now) ports.sent)
     (output (g.S.Sink.written c.follow.new.out) ports'.sent) c.follow.ensures.memory
 
--- where memory ran out, no more is seen of the lines than before
+-- where memory ran out, no more is seen of the lines than before, but for the listenings of a RESTORE
 pub returns-in-Err-clause-short : goal.returns-in-Err-clause-short
-returns-in-Err-clause-short g c = λ used step whole own is.
+returns-in-Err-clause-short g c = λ used step whole first own is.
     let session = c.args.session.now in
     let new = c.execute.new.session in
     let r = c.args.command.now in
@@ -121,18 +120,18 @@ returns-in-Err-clause-short g c = λ used step whole own is.
     let files' = (g.F.Files.state c.execute.new.files).files in
     let known = as-command g.F.Files.tells g.L.Lines.tells session.machine c.args.texts.now.scripts r (c.is_too_deep.ensures.fits c.if-is_too_deep.false) used in
     let undone = λ (short : c.in-Err.fault ≡ fault.OutOfMemory). c.in-Err.ensures.undone (ap Err short) in
-    let same = λ (short : c.in-Err.fault ≡ fault.OutOfMemory).
-    still-seen g.L.Lines.tells r (ports_of session.machine.lines) ports ports' known.1
-    (subst (λ (f : CommandFault). IsUnasked r (Err f) ports ports') short (λ is other. ap (λ l. g.L.Lines.state l) (c.in-Err.ensures.unasked is other)))
-    (subst (λ (f : CommandFault). ListenCause g.L.Lines.tells r (Err f) ports ports') short c.in-Err.ensures.listening) in
+    let unasked = λ (short : c.in-Err.fault ≡ fault.OutOfMemory).
+    subst (λ (f : CommandFault). IsUnasked r (Err f) ports ports') short (λ is other. ap (λ l. g.L.Lines.state l) (c.in-Err.ensures.unasked is other)) in
+    let cause = λ (short : c.in-Err.fault ≡ fault.OutOfMemory).
+    subst (λ (f : CommandFault). ListenCause g.L.Lines.tells r (Err f) ports ports') short c.in-Err.ensures.listening in
     refused-short (Ok r) session.command c.in-Err.fault c.refuse.result g.S.Sink.tells (live_in session (beyond files ports whole))
     (live_in new (beyond files' ports' whole)) own (output (g.S.Sink.written c.args.out.now) ports.sent) (output (g.S.Sink.written c.execute.new.out) ports'.sent)
     (output (g.S.Sink.written c.refuse.new.out) ports'.sent) (g.S.Sink.fault_count c.execute.new.out) (g.S.Sink.fault_count c.refuse.new.out)
     (λ short. (
-      subst (λ (x : Live). Remains (nature r).flushes (live_in session (beyond files ports whole)) x) (live-still new files' ports ports' whole (same short))
+      short-stands g.L.Lines.tells r (ports_of session.machine.lines) session new files files' ports ports' whole known.1 (unasked short) (cause short) first
           ((undone short).live (says g.F.Files.tells r session.machine.slots known.0) (steps-if (nature r).flushes session.machine files step) ports whole),
       short-notes (nature r).reads_whole session.command session.machine.time session.notes new.notes own (undone short).notes is,
-      (λ i. output ((undone short).written i) ((same short).sent i)),
+      (λ i. output ((undone short).written i) (still-sent g.L.Lines.tells r ports ports' (unasked short) (cause short) i)),
     ))
     refl c.refuse.ensures.told
 

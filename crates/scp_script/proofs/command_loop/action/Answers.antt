@@ -85,7 +85,7 @@ returns-in-Some-clause-told g c = λ enough apart sink step whole begins input n
     let short = λ (own : List Note) (e : notes_said done.notes ≡ notes_said session.notes ++ own).
     subst (λ (x : CommandState). IsShort what done.command result (live_in x named) live own before after) is
     (subst (λ n. IsShort what n result (live_in paid named) live own before after) (sym c.answer.ensures.command)
-    (c.answer.ensures.short used stepped whole own (e ∙ ap (λ (x : CommandState). notes_said x.notes ++ own) (sym is)))) in
+    (c.answer.ensures.short used stepped whole (λ restore. begins) own (e ∙ ap (λ (x : CommandState). notes_said x.notes ++ own) (sym is)))) in
     let limit = c.answer.ensures.limit ∙ ap (λ (x : CommandState). x.limit) is in
     action-stepped (session_of session named lines input []) (session_of done (beyond (g.F.Files.state c.answer.new.files).files ports' whole) last input []) first.action first.others what result tells before after
     (notes_said session.notes) (notes_said done.notes) sink first.is paid_for.0 (ap asked (sym text))

@@ -8,6 +8,7 @@ use Rattle.unit_files.specs.InStep.{InStep}
 use Rattle.nova_machine.specs.Machine.{attached_files}
 use Rattle.nova_machine.specs.Comes.{output}
 use Rattle.telnet_lines.specs.Many.{AreApart}
+use Rattle.state_transfer.specs.SavedValid.{AreStandard}
 use Rattle.command_session.specs.Live.{CommandState, live_in, beyond}
 use Rattle.command_session.specs.LinesLeft.{LinesLeft}
 use Rattle.command_session.proofs.PortLemmas.{left-same}
@@ -17,6 +18,7 @@ use Rattle.command_session.specs.DiskFile.{StaysWhereAlone}
 use Rattle.command_session.proofs.StepLemmas.{stays-alone}
 use Rattle.command_session.proofs.GrowLemmas.{grows-both}
 use Rattle.command_session.proofs.AskedLemmas.{long-asked}
+use Rattle.scp_commands.proofs.KindLemmas.{standard-by}
 use Rattle.scp_script.specs.declared.progress.Progress.TheVariants.{IsOver}
 use Rattle.scp_script.specs.declared.progress.Finish.TheVariants.{Commands, Console, Input}
 use Rattle.session_texts.specs.Scripts.{checked}
@@ -83,7 +85,7 @@ returns-in-Line-clause-told g c = λ enough source apart sink step whole begins 
     let short = λ (own : List Note) (e : notes_said done.notes ≡ notes_said session.notes ++ own).
     subst (λ (x : CommandState). IsShort what done.command result (live_in x named) live own mid after) is
     (subst (λ n. IsShort what n result (live_in paid named) live own mid after) (sym c.answer.ensures.command)
-    (c.answer.ensures.short used stepped whole own (e ∙ ap (λ (x : CommandState). notes_said x.notes ++ own) (sym is)))) in
+    (c.answer.ensures.short used stepped whole (λ restore. begins) own (e ∙ ap (λ (x : CommandState). notes_said x.notes ++ own) (sym is)))) in
     let limit = c.answer.ensures.limit ∙ ap (λ (x : CommandState). x.limit) is in
     line-stepped (session_of session named lines input []) (session_of done (beyond (g.F.Files.state c.answer.new.files).files ports' whole) last left []) now.reader.line what result tells before mid after
     (notes_said session.notes) (notes_said done.notes) sink (λ i. texts_of (c.requires.actions i) (c.requires.scripts i)) c.requires.reads reads.0 (ap asked (sym c.line.ensures))
@@ -477,3 +479,13 @@ returns-in-Unpaid-clause-drops g c = λ source. let reads = c.in-Unpaid.ensures.
 
 pub returns-in-Failed-clause-drops : goal.returns-in-Failed-clause-drops
 returns-in-Failed-clause-drops g c = λ source. let reads = c.in-Failed.ensures.reads source in (_, reads.2.rest)
+
+-- ---- the units
+
+pub returns-in-Err-detach_all-clause-standard : goal.returns-in-Err-detach_all-clause-standard
+returns-in-Err-detach_all-clause-standard g c =
+    standard-by _ _ (subst (λ (x : CommandState). AreStandard x.machine.units) (sym c.read_paid.ensures.rest) c.requires.standard) c.detach_all.ensures.kinds
+
+pub returns-in-Ok-detach_all-clause-standard : goal.returns-in-Ok-detach_all-clause-standard
+returns-in-Ok-detach_all-clause-standard g c =
+    standard-by _ _ (subst (λ (x : CommandState). AreStandard x.machine.units) (sym c.read_paid.ensures.rest) c.requires.standard) c.detach_all.ensures.kinds

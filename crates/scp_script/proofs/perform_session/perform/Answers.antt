@@ -1,5 +1,4 @@
 use Rattle.std.proofs.Common.{◌≡◌, ◌⊎◌, inl, inr, ⊎_elim, ℕ, ◌-◌, Bool, IsTrue, true, List, [], Option, refl, ap, sym, ◌∙◌, subst, arith}
-use Rattle.unit_list.specs.Bus.{kinds_of}
 use Rattle.file_traits.specs.Lists.{NamedBytes}
 use Rattle.host_lines.specs.State.{LineState}
 use Rattle.unit_files.specs.InStep.{InStep}
@@ -11,6 +10,7 @@ use Rattle.file_commands.specs.OwnFiles.{AreOwn}
 use Rattle.file_commands.specs.Notes.{Note, notes_said}
 use Rattle.file_commands.proofs.OwnFiles.{unused, own-both}
 use Rattle.scp_script.specs.Session.{Session}
+use Rattle.state_transfer.specs.SavedValid.{AreStandard}
 use Rattle.scp_script.specs.declared.progress.CommandLoop.{CommandLoop}
 use Rattle.session_texts.specs.Scripts.{first_script, still_open, AreFiles}
 use Rattle.session_texts.specs.Actions.{coming}
@@ -151,7 +151,7 @@ lines-preserved g c =
           (subst (λ (kept : List FaultNote). AreOwn first.machine.slots done.machine.slots first.notes kept old new) (sym notes_are)
           (own-both first.machine.slots mid.machine.slots done.machine.slots first.notes mid.notes done.notes old (g.F.Files.state c.lines.files) new
           c.lines.invariant.whose c.in-GoesOn.ensures.whose));
-      standard = ap (λ (x : CommandState). kinds_of x.machine.units) is ∙ c.in-GoesOn.ensures.standard;
+      standard = subst (λ (x : CommandState). AreStandard x.machine.units) (sym is) c.in-GoesOn.ensures.standard;
       is_open = subst (λ (slots : List (Option Held)). AllOpen slots new.opened) (sym slots_are) c.in-GoesOn.ensures.«open»;
       around = λ base around. subst (λ (slots : List (Option Held)). Around slots base new.opened) (sym slots_are)
           (c.in-GoesOn.ensures.around base (c.lines.invariant.around base around));
