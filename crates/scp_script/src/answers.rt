@@ -13,6 +13,7 @@ ghost use Rattle.command_session.specs.LinesLeft.{LinesLeft};
 ghost use Rattle.command_session.specs.Asked.{Asked, asked};
 ghost use Rattle.nova_machine.specs.Machine.{attached_files};
 ghost use Rattle.unit_files.specs.InStep.{InStep};
+ghost use Rattle.unit_list.specs.Bus.{kinds_of};
 ghost use Rattle.command_session.specs.DiskFile.{StaysWhereAlone};
 ghost use Rattle.command_session.specs.Doing.{Grows, IsExitAnswer};
 ghost use Rattle.command_session.specs.FaultText.{fault_text};
@@ -89,6 +90,7 @@ pub fn answer<U: Unit, F: Files, L: Lines, S: Sink>(
     ensures keys { session.new.keys ≡ session.old.keys }
     ensures limit { session.new.limit ≡ session.old.limit }
     ensures standard { AreStandard session.new.machine.units }
+    ensures kinds { kinds_of session.new.machine.units ≡ kinds_of session.old.machine.units }
     ensures open { AllOpen session.new.machine.slots (F.state files.new).opened }
     ensures around { (base : List Opened) → Around session.old.machine.slots base (F.state files.old).opened
         → Around session.new.machine.slots base (F.state files.new).opened }
@@ -150,6 +152,7 @@ fn obey<U: Unit, F: Files, L: Lines, S: Sink>(
     ensures keys { session.new.keys ≡ session.old.keys }
     ensures limit { session.new.limit ≡ session.old.limit }
     ensures standard { AreStandard session.new.machine.units }
+    ensures kinds { kinds_of session.new.machine.units ≡ kinds_of session.old.machine.units }
     ensures open { AllOpen session.new.machine.slots (F.state files.new).opened }
     ensures around { (base : List Opened) → Around session.old.machine.slots base (F.state files.old).opened
         → Around session.new.machine.slots base (F.state files.new).opened }

@@ -12,6 +12,7 @@ ghost use Rattle.nova_machine.specs.Comes.{output};
 ghost use Rattle.state_transfer.specs.SavedValid.{AreStandard};
 ghost use Rattle.nova_machine.specs.Machine.{attached_files};
 ghost use Rattle.unit_files.specs.InStep.{InStep};
+ghost use Rattle.unit_list.specs.Bus.{kinds_of};
 ghost use Rattle.command_session.specs.Live.{beyond};
 ghost use Rattle.command_session.specs.DiskFile.{StaysWhereAlone};
 ghost use Rattle.command_session.specs.Doing.{Grows};
@@ -94,6 +95,7 @@ pub fn next_line<U: Unit, C: Source, F: Files, L: Lines, S: Sink>(
     ensures keys { session.new.keys ≡ session.old.keys }
     ensures limit { session.new.limit ≡ session.old.limit }
     ensures standard { AreStandard session.new.machine.units }
+    ensures kinds { kinds_of session.new.machine.units ≡ kinds_of session.old.machine.units }
     ensures open { AllOpen session.new.machine.slots (F.state files.new).opened }
     ensures around { (base : List Opened) → Around session.old.machine.slots base (F.state files.old).opened
         → Around session.new.machine.slots base (F.state files.new).opened }
@@ -161,6 +163,7 @@ fn action<U: Unit, F: Files, L: Lines, S: Sink>(
     ensures keys { session.new.keys ≡ session.old.keys }
     ensures limit { session.new.limit ≡ session.old.limit }
     ensures standard { AreStandard session.new.machine.units }
+    ensures kinds { kinds_of session.new.machine.units ≡ kinds_of session.old.machine.units }
     ensures open { AllOpen session.new.machine.slots (F.state files.new).opened }
     ensures around { (base : List Opened) → Around session.old.machine.slots base (F.state files.old).opened
         → Around session.new.machine.slots base (F.state files.new).opened }
@@ -244,6 +247,7 @@ fn input_line<U: Unit, C: Source, F: Files, L: Lines, S: Sink>(
     ensures keys { session.new.keys ≡ session.old.keys }
     ensures limit { session.new.limit ≡ session.old.limit }
     ensures standard { AreStandard session.new.machine.units }
+    ensures kinds { kinds_of session.new.machine.units ≡ kinds_of session.old.machine.units }
     ensures open { AllOpen session.new.machine.slots (F.state files.new).opened }
     ensures around { (base : List Opened) → Around session.old.machine.slots base (F.state files.old).opened
         → Around session.new.machine.slots base (F.state files.new).opened }
@@ -334,6 +338,7 @@ fn script_line<U: Unit, F: Files, L: Lines, S: Sink>(
     ensures keys { session.new.keys ≡ session.old.keys }
     ensures limit { session.new.limit ≡ session.old.limit }
     ensures standard { AreStandard session.new.machine.units }
+    ensures kinds { kinds_of session.new.machine.units ≡ kinds_of session.old.machine.units }
     ensures open { AllOpen session.new.machine.slots (F.state files.new).opened }
     ensures around { (base : List Opened) → Around session.old.machine.slots base (F.state files.old).opened
         → Around session.new.machine.slots base (F.state files.new).opened }

@@ -15,6 +15,7 @@ ghost use Rattle.scp_script.specs.Loop.{NumbersSuffice, FinishCause, SessionKept
 ghost use Rattle.session_texts.specs.Scripts.{first_script, AreFiles};
 ghost use Rattle.nova_machine.specs.Machine.{attached_files};
 ghost use Rattle.unit_files.specs.InStep.{InStep};
+ghost use Rattle.unit_list.specs.Bus.{kinds_of};
 ghost use Rattle.scp_script.specs.Perform.{beginning, Performed, SaysNoMore};
 ghost use Rattle.scp_script.specs.Spending.{Spends};
 ghost use Rattle.scp_script.specs.Used.{CourseTold};
@@ -104,6 +105,7 @@ pub fn perform<U: Unit, C: Source, F: Files, L: Lines, S: Sink>(
     ensures keys { session.new.keys ≡ session.old.keys }
     ensures limit { session.new.limit ≡ session.old.limit }
     ensures standard { AreStandard session.new.machine.units }
+    ensures kinds { kinds_of session.new.machine.units ≡ kinds_of session.old.machine.units }
     ensures open { AllOpen session.new.machine.slots (F.state files.new).opened }
     ensures around { (base : List Opened) → Around session.old.machine.slots base (F.state files.old).opened
         → Around session.new.machine.slots base (F.state files.new).opened }

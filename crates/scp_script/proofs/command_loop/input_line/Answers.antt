@@ -24,6 +24,7 @@ use Rattle.scp_script.specs.declared.progress.Finish.TheVariants.{Commands, Cons
 use Rattle.session_texts.specs.Scripts.{checked}
 use Rattle.session_texts.specs.Actions.{Texts, texts_of, coming}
 use Rattle.file_commands.specs.AllUnits.{keeper}
+use Rattle.unit_list.specs.Bus.{kinds_of}
 use Rattle.command_session.specs.declared.next.Next.TheVariants.{Go}
 use Rattle.scp_script.proofs.KeptLemmas.{kept-last, kept-none, kept-paid}
 use Rattle.scp_script.specs.Loop.{IsShort, Answers, opens_asked, AreKeptFor, session_of}
@@ -489,3 +490,9 @@ returns-in-Err-detach_all-clause-standard g c =
 pub returns-in-Ok-detach_all-clause-standard : goal.returns-in-Ok-detach_all-clause-standard
 returns-in-Ok-detach_all-clause-standard g c =
     standard-by _ _ (subst (λ (x : CommandState). AreStandard x.machine.units) (sym c.read_paid.ensures.rest) c.requires.standard) c.detach_all.ensures.kinds
+
+pub returns-in-Err-detach_all-clause-kinds : goal.returns-in-Err-detach_all-clause-kinds
+returns-in-Err-detach_all-clause-kinds g c = c.detach_all.ensures.kinds ∙ ap (λ (x : CommandState). kinds_of x.machine.units) c.read_paid.ensures.rest
+
+pub returns-in-Ok-detach_all-clause-kinds : goal.returns-in-Ok-detach_all-clause-kinds
+returns-in-Ok-detach_all-clause-kinds g c = c.detach_all.ensures.kinds ∙ ap (λ (x : CommandState). kinds_of x.machine.units) c.read_paid.ensures.rest

@@ -9,6 +9,7 @@ use Rattle.file_commands.specs.declared.note.FaultNote.{FaultNote}
 use Rattle.file_commands.specs.OwnFiles.{AreOwn}
 use Rattle.file_commands.specs.Notes.{Note, notes_said}
 use Rattle.file_commands.proofs.OwnFiles.{unused, own-both}
+use Rattle.unit_list.specs.Bus.{kinds_of}
 use Rattle.scp_script.specs.Session.{Session}
 use Rattle.state_transfer.specs.SavedValid.{AreStandard}
 use Rattle.scp_script.specs.declared.progress.CommandLoop.{CommandLoop}
@@ -75,6 +76,7 @@ lines-init g c =
       keeps = kept-none _ _ c.args.session.now.notes (g.F.Files.state c.args.files.now);
       whose = unused c.args.session.now.machine.slots c.args.session.now.machine.slots c.args.session.now.notes c.args.session.now.notes (g.F.Files.state c.args.files.now) refl refl;
       standard = c.requires.standard;
+      kinds = refl;
       is_open = c.requires.«open»;
       around = λ base around. around;
     }
@@ -152,6 +154,7 @@ lines-preserved g c =
           (own-both first.machine.slots mid.machine.slots done.machine.slots first.notes mid.notes done.notes old (g.F.Files.state c.lines.files) new
           c.lines.invariant.whose c.in-GoesOn.ensures.whose));
       standard = subst (λ (x : CommandState). AreStandard x.machine.units) (sym is) c.in-GoesOn.ensures.standard;
+      kinds = ap (λ (x : CommandState). kinds_of x.machine.units) is ∙ c.in-GoesOn.ensures.kinds ∙ c.lines.invariant.kinds;
       is_open = subst (λ (slots : List (Option Held)). AllOpen slots new.opened) (sym slots_are) c.in-GoesOn.ensures.«open»;
       around = λ base around. subst (λ (slots : List (Option Held)). Around slots base new.opened) (sym slots_are)
           (c.in-GoesOn.ensures.around base (c.lines.invariant.around base around));

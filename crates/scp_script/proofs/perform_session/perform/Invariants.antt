@@ -4,6 +4,7 @@ use Rattle.unit_files.specs.InStep.{InStep}
 use Rattle.unit_files.specs.Open.{AllOpen, Around}
 use Rattle.file_commands.specs.OwnFiles.{AreOwn}
 use Rattle.file_commands.specs.Notes.{notes_said}
+use Rattle.unit_list.specs.Bus.{kinds_of}
 use Rattle.host_lines.specs.Traffic.{Answer}
 use Rattle.host_lines.specs.Told.{IsFirst, record_in}
 use Rattle.telnet_lines.specs.Many.{AreApart}
@@ -52,6 +53,7 @@ invariant-lines g l = record {
   keeps : AreKeptFor g.F.Files.tells (l.fn.opening.budget - l.texts.budget) l.fn.session.notes l.session.notes (g.F.Files.state l.fn.files) (g.F.Files.state l.files);
   whose : AreOwn l.fn.session.machine.slots l.session.machine.slots l.fn.session.notes l.session.notes (g.F.Files.state l.fn.files) (g.F.Files.state l.files);
   standard : AreStandard l.session.machine.units;
+  kinds : kinds_of l.session.machine.units ≡ kinds_of l.fn.session.machine.units;
   is_open : AllOpen l.session.machine.slots (g.F.Files.state l.files).opened;
   around : (base : List Opened) → Around l.fn.session.machine.slots base (g.F.Files.state l.fn.files).opened → Around l.session.machine.slots base (g.F.Files.state l.files).opened;
 }
