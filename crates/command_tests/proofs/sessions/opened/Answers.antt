@@ -1,4 +1,4 @@
-use Rattle.std.proofs.Common.{◌≡◌, ◌∙◌, ap, map, List, Result, Ok, Err, IfOk}
+use Rattle.std.proofs.Common.{◌≡◌, ◌∙◌, ap, inl, map, List, Result, Ok, Err, IfOk}
 use Rattle.unit_trait.specs.Calls.{UnitState}
 use Rattle.command_words.specs.Standard.{IsStandard}
 use Rattle.unit_list.specs.Bus.{kinds_of}
@@ -14,7 +14,7 @@ new-kinds units = reset-kinds units
 
 new-standard : {E : Type 0} (units : List UnitState) (r : Result CommandState E) → IsStandard units
     → IfOk r (λ s. s.machine ≡ new_machine units) → IfOk r (λ s. AreStandard s.machine.units)
-new-standard units (Ok s) are made = ap (λ (m : MachineState). kinds_of m.units) made ∙ new-kinds units ∙ ap kinds_of are
+new-standard units (Ok s) are made = inl (ap (λ (m : MachineState). kinds_of m.units) made ∙ new-kinds units ∙ ap kinds_of are)
 new-standard units (Err fault) are made = tt
 
 pub returns-clause-standard : goal.returns-clause-standard

@@ -1,7 +1,8 @@
-use Rattle.std.proofs.Common.{◌≡◌, List, map, refl, sym, ap, subst, ◌∙◌}
+use Rattle.std.proofs.Common.{rules, ◌≡◌, List, inl, map, refl, sym, ap, subst, ◌∙◌}
 use Rattle.unit_trait.specs.Calls.{UnitState}
-use Rattle.command_words.specs.Standard.{IsStandard}
+use Rattle.command_words.specs.Standard.{IsStandard, standard_units}
 use Rattle.unit_list.specs.Bus.{kinds_of}
+use Rattle.unit_list.specs.BusOrder.{IsBusOrder}
 use Rattle.unit_list.proofs.Resets.{reset-kinds}
 use Rattle.unit_files.specs.Buffer.{nothing_attached}
 use Rattle.nova_machine.specs.Machine.{MachineState, attached_files, new_machine, reset_devices, reset_machine}
@@ -11,7 +12,11 @@ use Rattle.command_tests.proofs.states.session.plays_on.Goals as goal
 -- a new machine with the ten units is a standard one, and has no files
 new-standard : (units : List UnitState) → IsStandard units → AreStandard (new_machine units).units
 unfolding new_machine reset_machine reset_devices
-new-standard units is = reset-kinds units ∙ ap kinds_of is
+new-standard units is = inl (reset-kinds units ∙ ap kinds_of is)
+
+-- the ten units stand in bus order
+standard-order : IsBusOrder standard_units
+standard-order = search rules
 
 new-nothing : (units : List UnitState) → attached_files (new_machine units) ≡ nothing_attached
 unfolding new_machine reset_machine reset_devices
@@ -25,3 +30,6 @@ with_machine-requires-clause-standard g c =
 pub with_machine-requires-clause-nothing : goal.with_machine-requires-clause-nothing
 with_machine-requires-clause-nothing g c =
     ap attached_files c.in_ok-machine.ensures.machine ∙ new-nothing (map g.U.Unit.unit_state c.args.units.items)
+
+pub new-requires : goal.new-requires
+new-requires g c = subst IsBusOrder (sym c.requires.units) standard-order
