@@ -20,7 +20,7 @@ use Rattle.host_commands.specs.DoEffects.{do_reply}
 -- such a command, where these calls on files fail; of the others it is not said here
 abbrev pub host_effect : List CommandNote → Live → Request → Reply
 host_effect notes live (Attach option unit name) = attach_reply notes live option unit name
-host_effect notes live (AttachPort kind port) = attach_port_reply live port
+host_effect notes live (AttachPort kind port) = attach_port_reply live kind port
 host_effect notes live (Detach unit) = detach_one_or_all notes live unit
 host_effect notes live (Disconnect kind) = disconnect_reply live
 host_effect notes live (Do echo strict name arguments) = do_reply notes live echo strict name
@@ -57,7 +57,7 @@ HostWorks request answer s t old new = Unit {0}
 
 -- what its answer says of the lines
 abbrev pub HostLines : Bool → Request → Answer → LineState → List (LineOf ℕ) → LineState → List (LineOf ℕ) → Type 0
-HostLines tells (AttachPort kind port) answer old before new after = AttachesPort tells port answer old before new after
+HostLines tells (AttachPort kind port) answer old before new after = AttachesPort tells kind port answer old before new after
 HostLines tells (Detach unit) answer old before new after = DetachesUnit unit answer old before new after
 HostLines tells (Disconnect kind) answer old before new after = Disconnects answer old before new after
 HostLines tells (Exit status) answer old before new after = ClosesAll answer old before new after
