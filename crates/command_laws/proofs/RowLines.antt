@@ -1,11 +1,11 @@
 -- Lines in a row that get ports, or lose them, and what is still to come on lines behind listenings: they stay as every state has them.
-use Rattle.std.proofs.Common.{◌≡◌, ℕ, zero, suc, ◌+◌, ◌^◌, ◌<◌, ◌≤◌, ◌||◌, not, nat_le, Bool, true, false, List, [], ◌∷◌, length, Option, Some, None, is_some, IfSome, refl, sym, ◌∙◌, arith, ap, if◌then◌else◌}
+use Rattle.std.proofs.Common.{◌≡◌, ℕ, zero, suc, ◌+◌, ◌^◌, ◌≤◌, nat_le, Bool, true, false, List, [], ◌∷◌, length, Option, Some, None, IfSome, refl, ◌∙◌, arith, if◌then◌else◌}
 use Rattle.std.specs.List.{AllByRecursion}
 use Rattle.std.proofs.lemmas.Bool.{and_parts, leb-true}
 use Rattle.host_lines.specs.Traffic.{Answer as LineAnswer, Peer, Ahead, Script, Answers, Failed, replied, begun, listening}
 use Rattle.telnet_lines.specs.Line.{LineOf, unconnected}
 use Rattle.terminal_ports.specs.Ports.{changed_at}
-use Rattle.terminal_ports.specs.Rows.{changed_row, row_from, with_ports, are_taken}
+use Rattle.terminal_ports.specs.Rows.{changed_row, row_from, with_ports}
 use Rattle.terminal_ports.specs.Listening.{unless_failed, listening_each}
 use Rattle.terminal_ports.proofs.Rows.{changed-length}
 use Rattle.nova_machine.specs.Valid.{IsPort, ValidLine, ValidAhead}

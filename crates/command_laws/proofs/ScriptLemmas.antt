@@ -1,5 +1,5 @@
 -- No command that works on files or lines, or runs, has a script next, but DO.
-use Rattle.std.proofs.Common.{ℕ, Bool, true, false, List, drop, Option, Some, None, Result, Ok, Err, if◌then◌else◌, nat_le, ◌&&◌, ◌^◌, min, unwrap_or, is_none, is_some}
+use Rattle.std.proofs.Common.{ℕ, Bool, true, false, List, drop, Option, Some, None, Result, Ok, Err, if◌then◌else◌, nat_le, ◌&&◌, ◌^◌, min, unwrap_or, is_none}
 use Rattle.file_commands.specs.declared.note.Subject.TheVariants as subject
 use Rattle.file_commands.specs.Notes.{CommandNote, failure_now}
 use Rattle.unit_trait.specs.declared.kind.UnitName.{UnitName}

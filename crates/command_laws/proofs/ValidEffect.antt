@@ -1,5 +1,5 @@
 -- Every command keeps what every state is, and what the disk holds of its file.
-use Rattle.std.proofs.Common.{◌≡◌, ◌≢◌, inl, inr, ℕ, zero, suc, ◌+◌, ◌^◌, ◌<◌, ◌≤◌, ◌==◌, ◌&&◌, not, nat_le, nat_lt, min, unwrap_or, Bool, true, false, List, [], ◌∷◌, length, drop, get_or, map, Option, Some, None, IfSome, option_map, Result, Ok, Err, if◌then◌else◌, refl, sym, ap, subst, ◌∙◌, arith, is_none, is_some}
+use Rattle.std.proofs.Common.{◌≡◌, ◌≢◌, inl, inr, ℕ, zero, suc, ◌+◌, ◌^◌, ◌<◌, ◌≤◌, ◌==◌, ◌&&◌, not, nat_le, nat_lt, min, unwrap_or, Bool, true, false, List, [], ◌∷◌, length, drop, get_or, map, Option, Some, None, option_map, Result, Ok, Err, if◌then◌else◌, refl, sym, ap, subst, ◌∙◌, arith, is_none, is_some}
 use Rattle.std.proofs.lemmas.Bool.{and_parts, leb-true, ltb-true}
 use Rattle.std.proofs.lemmas.List.{length-map, length-replicate}
 use Rattle.observations.specs.Observations.{Prints, map_made}
@@ -31,7 +31,7 @@ use Rattle.unit_files.specs.Attachments.{no_attachments}
 use Rattle.nova_machine.specs.Seen.{unnumbered, attached_in}
 use Rattle.nova_machine.specs.Run.{run, last_time}
 use Rattle.std.specs.List.{AllByRecursion}
-use Rattle.nova_machine.specs.Valid.{AreBytes, IsByteName, AreShortActions, ValidExpect, ValidMachine, ValidWatch, IsPort, ValidLine, ValidAhead, Valid, CopyIsFile, DiskIsItsFile, KeepsFile}
+use Rattle.nova_machine.specs.Valid.{AreBytes, IsByteName, AreShortActions, ValidExpect, ValidMachine, ValidWatch, ValidLine, ValidAhead, Valid, CopyIsFile, DiskIsItsFile, KeepsFile}
 use Rattle.machine_laws.specs.ValidLaws.{StaysAs}
 use Rattle.machine_laws.proofs.StayingValid.{runs-stay-valid}
 use Rattle.nova_machine.specs.declared.machine.Stop.{Stop}

@@ -1,6 +1,6 @@
 -- What holds of every command: it reads nothing, the status of an exit is small, and one that is refused has changed
 -- nothing but files.
-use Rattle.std.proofs.Common.{◌≡◌, inl, inr, ℕ, Bool, true, false, List, [], ◌∷◌, refl, sym, subst, ◌∙◌, drop, Option, Some, None, Result, Ok, Err, if◌then◌else◌, nat_le, nat_lt, not, ◌==◌, length, ◌+◌, ◌&&◌, ◌^◌, min, unwrap_or, arith, is_none, is_some}
+use Rattle.std.proofs.Common.{◌≡◌, inl, inr, ℕ, Bool, true, false, List, [], ◌∷◌, refl, sym, subst, ◌∙◌, drop, Option, Some, None, Result, Ok, Err, if◌then◌else◌, nat_le, nat_lt, not, ◌==◌, length, ◌+◌, ◌&&◌, ◌^◌, min, unwrap_or, arith, is_none}
 use Rattle.std.proofs.lemmas.Bool.{leb-true}
 use Rattle.observations.specs.Observations.{Prints, reads_of, map_made}
 use Rattle.observations.proofs.MadeLemmas.{reads_of-append, reads_of-map}

@@ -1,8 +1,8 @@
 -- What texts leave of the ports and the connections of the outside.
-use Rattle.std.proofs.Common.{◌≡◌, ◌∙◌, inl, inr, ap, sym, subst, ℕ, Bool, false, List, [], ◌∷◌, Option, Ok, Err}
+use Rattle.std.proofs.Common.{◌≡◌, ◌∙◌, inl, inr, ap, sym, subst, ℕ, Bool, false, List, Option, Ok, Err}
 use Rattle.file_traits.specs.Lists.{NamedBytes}
 use Rattle.host_lines.specs.declared.lines.ListenFault.TheVariants as listen
-use Rattle.host_lines.specs.Traffic.{Answer as LineAnswer, Quiet, Ahead, Replied, replied, listening}
+use Rattle.host_lines.specs.Traffic.{Answer as LineAnswer}
 use Rattle.host_lines.specs.Told.{Told, IsFirst, record_in, ahead_of}
 use Rattle.host_lines.specs.State.{LineState, parties}
 use Rattle.telnet_lines.specs.Line.{LineOf}
@@ -16,10 +16,9 @@ use Rattle.command_session.specs.Doing.{IsRefused}
 use Rattle.command_session.specs.LinesLeft.{LinesLeft, IsUnlistened, ListenCause}
 use Rattle.command_session.proofs.PortLemmas.{left-same, seen-still}
 use Rattle.command_session.specs.Remains.{Remains}
-use Rattle.terminal_ports.specs.Listening.{rising, TellsEach, OneRefused, listening_each}
+use Rattle.terminal_ports.specs.Listening.{rising, TellsEach, OneRefused}
 use Rattle.terminal_ports.proofs.Row.{one-refused}
 use Rattle.terminal_ports.proofs.Rows.{each-said}
-use Rattle.nova_machine.proofs.LineSteps.{first-same, first-through}
 use Rattle.scp_script.specs.Loop.{AsksPorts, HasListened, StandsShort}
 use Rattle.scp_script.specs.Used.{LinesTold}
 
