@@ -1,6 +1,6 @@
 use Rattle.std.proofs.Common.{◌≡◌, ◌++◌, ◌∷◌, [], ℕ, List, codes, decimal, sym, append_assoc, subst, rules}
 use Rattle.file_traits.specs.Streams.{Puts}
-use Rattle.plain_commands.proofs.show_command.put_connected.Goals as goal
+use Rattle.plain_commands.proofs.show_ports.put_connected.Goals as goal
 
 pub returns-clause-told : goal.returns-clause-told
 returns-clause-told g c = λ told.

@@ -1,7 +1,7 @@
 use Rattle.std.proofs.Common.{List, ℕ, IsTrue, ◌∙◌, sym, subst}
 use Rattle.file_traits.specs.Streams.{Puts}
-use Rattle.plain_commands.proofs.ShowLemmas.{text-free}
-use Rattle.plain_commands.proofs.show_command.put_line.Goals as goal
+use Rattle.plain_commands.proofs.PortShows.{text-free}
+use Rattle.plain_commands.proofs.show_ports.put_line.Goals as goal
 
 pub returns-in-None-default-clause-told : goal.returns-in-None-default-clause-told
 returns-in-None-default-clause-told g c =

@@ -1,6 +1,6 @@
 use Rattle.std.proofs.Common.{sym, refl}
-use Rattle.plain_commands.proofs.ShowLemmas.{line-shown, no-line-shown}
-use Rattle.plain_commands.proofs.show_command.show_terminal.Goals as goal
+use Rattle.plain_commands.proofs.PortShows.{line-shown, no-line-shown}
+use Rattle.plain_commands.proofs.show_ports.show_terminal.Goals as goal
 
 pub returns-in-None-clause-told : goal.returns-in-None-clause-told
 returns-in-None-clause-told g c = λ watch keys files heard.
