@@ -7,7 +7,8 @@ use Rattle.host_lines.specs.Traffic.{Peer}
 use Rattle.telnet_lines.specs.Line.{LineOf, unconnected}
 use Rattle.terminal_ports.specs.Ports.{changed_at, HavePortsApart, HaveNone, HavePortsFrom, AreNumbered}
 use Rattle.terminal_ports.specs.Rows.{changed_row, row_from, with_ports}
-use Rattle.terminal_ports.proofs.Rows.{with-both, NoneHas, changed-length, given-length, apart-given}
+use Rattle.terminal_ports.proofs.Rows.{changed-length}
+use Rattle.terminal_ports.proofs.RowPorts.{with-both, NoneHas, given-length, apart-given}
 use Rattle.unit_trait.specs.declared.kind.Kind.{Kind}
 use Rattle.unit_trait.specs.declared.kind.Kind.TheVariants.{Qty}
 use Rattle.unit_trait.specs.Calls.{UnitState}

@@ -1,5 +1,5 @@
 -- Lines in a row that get ports, or lose them, and what is still to come on lines behind listenings: they stay as every state has them.
-use Rattle.std.proofs.Common.{◌≡◌, ℕ, zero, suc, ◌+◌, ◌^◌, ◌≤◌, nat_le, Bool, true, false, List, [], ◌∷◌, length, Option, Some, None, IfSome, refl, ◌∙◌, arith, if◌then◌else◌}
+use Rattle.std.proofs.Common.{◌≡◌, ℕ, zero, suc, ◌+◌, ◌^◌, ◌≤◌, nat_le, Bool, true, false, List, [], ◌∷◌, length, Option, Some, None, IfSome, refl, arith, if◌then◌else◌}
 use Rattle.std.specs.List.{AllByRecursion}
 use Rattle.std.proofs.lemmas.Bool.{and_parts, leb-true}
 use Rattle.host_lines.specs.Traffic.{Answer as LineAnswer, Peer, Ahead, Script, Answers, Failed, replied, begun, listening}
@@ -7,7 +7,7 @@ use Rattle.telnet_lines.specs.Line.{LineOf, unconnected}
 use Rattle.terminal_ports.specs.Ports.{changed_at}
 use Rattle.terminal_ports.specs.Rows.{changed_row, row_from, with_ports}
 use Rattle.terminal_ports.specs.Listening.{unless_failed, listening_each}
-use Rattle.terminal_ports.proofs.Rows.{changed-length}
+use Rattle.terminal_ports.proofs.Rows.{changed-length, row-length}
 use Rattle.nova_machine.specs.Valid.{IsPort, ValidLine, ValidAhead}
 use Rattle.command_session.specs.declared.terminal.LineRow.{LineRow}
 use Rattle.command_session.specs.LineEffects.{first_place, ported, closed, closed_by, hung, hung_by, hung_up, unported, terminal_place, are_ports}
@@ -69,16 +69,11 @@ unfolding changed_row
 valid-row zero place change lines changes all = all
 valid-row (suc count) place change lines changes all = valid-row count (suc place) change (changed_at place change lines) changes (valid-changed place change lines changes all)
 
-many-row : (count place : ℕ) (change : LineOf Peer → LineOf Peer) (lines : List (LineOf Peer)) → length (changed_row count place change lines) ≡ length lines
-unfolding changed_row
-many-row zero place change lines = refl
-many-row (suc count) place change lines = many-row count (suc place) change (changed_at place change lines) ∙ changed-length place change lines
-
 pub valid-unported : (row : LineRow) (lines : List (LineOf Peer)) → AllByRecursion ValidLine lines → AllByRecursion ValidLine (unported row lines)
 valid-unported row lines all = valid-row row.count (first_place row) closed lines (λ line valid. closed-valid line.port line valid) all
 
 pub many-unported : (row : LineRow) (lines : List (LineOf Peer)) → length (unported row lines) ≡ length lines
-many-unported row lines = many-row row.count (first_place row) closed lines
+many-unported row lines = row-length row.count (first_place row) closed lines
 
 valid-given : (count place port : ℕ) (lines : List (LineOf Peer)) → 1 ≤ port → port + count ≤ 2 ^ 16 → AllByRecursion ValidLine lines
     → AllByRecursion ValidLine (with_ports (row_from count place port) lines)

@@ -31,7 +31,7 @@ use Rattle.command_session.specs.FileEffects.{detach_all_reply, emptied_all, kep
 use Rattle.command_session.specs.ExitEffects.{exit_reply}
 use Rattle.command_session.specs.TapeEffects.{tape_in, tape_answer, load_answer, load_reply, can_dump, dump_of, dump_answer, dump_reply}
 use Rattle.command_session.specs.WholeCalls.{whole_calls, write_calls, wrote_answer}
-use Rattle.state_commands.specs.StateEffects.{unit_claim, flushed_with, save_by, save_reply, listening_each, listened_back, restored_by, unless_missing, restored_as, restored_from, restore_reply}
+use Rattle.state_commands.specs.StateEffects.{unit_claim, flushed_with, save_by, save_reply, listened_back, restored_by, unless_missing, restored_as, restored_from, restore_reply}
 use Rattle.command_session.specs.Occupied.{is_occupied}
 use Rattle.binary_load.specs.declared.faults.LoadFault.{LoadFault}
 use Rattle.binary_load.specs.Tape.{Tape}

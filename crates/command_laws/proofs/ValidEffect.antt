@@ -79,7 +79,7 @@ use Rattle.command_session.proofs.PortLemmas.{apart-unported, apart-hung, apart-
 use Rattle.terminal_ports.specs.Ports.{HavePortsApart, AreNumbered}
 use Rattle.terminal_ports.specs.Rows.{row_from, are_taken}
 use Rattle.terminal_ports.specs.Listening.{rising, listening_each}
-use Rattle.terminal_ports.proofs.Rows.{given-length}
+use Rattle.terminal_ports.proofs.RowPorts.{given-length}
 use Rattle.terminal_ports.proofs.PortsApart.{apart-by}
 use Rattle.command_laws.proofs.OwnLines.{same-many, standard-by, standard-saved}
 use Rattle.command_laws.proofs.NumberedLines.{numbered-by, numbered-changed, numbered-unported, numbered-closed, numbered-ported, numbered-back, apart-back, many-back}

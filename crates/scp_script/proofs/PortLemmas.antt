@@ -18,7 +18,7 @@ use Rattle.command_session.proofs.PortLemmas.{left-same, seen-still}
 use Rattle.command_session.specs.Remains.{Remains}
 use Rattle.terminal_ports.specs.Listening.{rising, TellsEach, OneRefused}
 use Rattle.terminal_ports.proofs.Row.{one-refused}
-use Rattle.terminal_ports.proofs.Rows.{each-said}
+use Rattle.terminal_ports.proofs.RowTold.{each-said}
 use Rattle.scp_script.specs.Loop.{AsksPorts, HasListened, StandsShort}
 use Rattle.scp_script.specs.Used.{LinesTold}
 
