@@ -5,17 +5,18 @@ use Rattle.std.proofs.lemmas.List.{length-map}
 use Rattle.host_lines.specs.Traffic.{Peer}
 use Rattle.telnet_lines.specs.Line.{LineOf, unconnected}
 use Rattle.terminal_ports.specs.Ports.{changed_at, HavePortsApart, HaveNone, HavePortsFrom, AreNumbered}
+use Rattle.terminal_ports.specs.Rows.{row_from, with_ports}
+use Rattle.terminal_ports.proofs.RowPorts.{with-both, NoneHas, given-length, apart-given}
 use Rattle.unit_trait.specs.Calls.{UnitState}
 use Rattle.nova_machine.specs.LineChanges.{ports_of}
 use Rattle.nova_machine.specs.Machine.{has_terminal, has_multiplexer, line_count, place_of as line_place}
 use Rattle.saved_session.specs.declared.saved.SavedPorts.{SavedPorts}
 use Rattle.saved_session.specs.Valid.{ArePorts}
-use Rattle.state_transfer.specs.Ports.{row_from, how_many, is_line, multiplexer_lines, assigned, with_ports}
+use Rattle.state_transfer.specs.Ports.{how_many, is_line, multiplexer_lines, assigned}
 use Rattle.state_transfer.specs.PutBack.{lines_from}
-use Rattle.state_transfer.proofs.RowLemmas.{with-both}
 use Rattle.state_laws.proofs.LinesBack.{row-behind, how-many, free_lines}
 use Rattle.command_session.proofs.PortLemmas.{apart-free}
-use Rattle.state_commands.proofs.PortRows.{NoneHas, all-given, given-length, apart-given}
+use Rattle.state_commands.proofs.PortRows.{all-given}
 
 -- ---- lines with the same ports
 

@@ -26,13 +26,14 @@ use Rattle.command_session.specs.Live.{Live}
 use Rattle.command_session.specs.Reply.{Answer, Reply}
 use Rattle.command_session.specs.RunEffects.{run_answer, run_failure, ran, address_fits, started, run_from, stepped, step_of}
 use Rattle.terminal_ports.specs.Ports.{is_taken}
+use Rattle.terminal_ports.specs.Listening.{listening_each}
 use Rattle.command_session.specs.LineEffects.{terminal_place, terminal_line, is_port, listen_answer, attach_line, attach_port_reply, with_port, disconnect_reply}
 use Rattle.command_session.specs.FileEffects.{lacks_unit, mode_of, attach_answer, attach_reply}
 use Rattle.command_session.specs.FileEffects.{detach_all_reply, emptied_all, kept_answer}
 use Rattle.command_session.specs.ExitEffects.{exit_reply}
 use Rattle.command_session.specs.TapeEffects.{tape_in, tape_answer, load_answer, load_reply, can_dump, dump_of, dump_answer, dump_reply}
 use Rattle.command_session.specs.WholeCalls.{whole_calls, write_calls, wrote_answer}
-use Rattle.state_commands.specs.StateEffects.{unit_claim, flushed_with, save_by, save_reply, listening_each, listened_back, restored_by, unless_missing, restored_as, restored_from, restore_reply}
+use Rattle.state_commands.specs.StateEffects.{unit_claim, flushed_with, save_by, save_reply, listened_back, restored_by, unless_missing, restored_as, restored_from, restore_reply}
 use Rattle.command_session.specs.Occupied.{is_occupied}
 use Rattle.binary_load.specs.declared.faults.LoadFault.{LoadFault}
 use Rattle.binary_load.specs.Tape.{Tape}

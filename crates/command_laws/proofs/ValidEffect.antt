@@ -74,6 +74,7 @@ use Rattle.telnet_lines.specs.Line.{LineOf, unconnected}
 use Rattle.command_session.specs.LineEffects.{is_terminal, terminal_place, terminal_line, ported, closed, closed_by, unported, hung, hung_by, hung_up, is_port, listen_answer, listen_lines, listen_with, attach_line, attach_port_reply}
 use Rattle.command_session.proofs.PortLemmas.{apart-unported, apart-hung, apart-ported}
 use Rattle.terminal_ports.specs.Ports.{changed_at, is_taken, HavePortsApart, AreNumbered}
+use Rattle.terminal_ports.specs.Listening.{unless_failed, listening_each}
 use Rattle.terminal_ports.proofs.PortsApart.{apart-by}
 use Rattle.command_laws.proofs.OwnLines.{same-many, standard-by, standard-saved}
 use Rattle.command_laws.proofs.NumberedLines.{numbered-by, numbered-changed, numbered-back, apart-back, many-back}
@@ -85,7 +86,7 @@ use Rattle.plain_commands.specs.SetEffects.{sized, ruled, set_size_reply, set_au
 use Rattle.plain_commands.specs.ScriptEffects.{test_answer, assert_answer, echo_reply, assert_reply, goto_reply}
 use Rattle.host_commands.specs.DoEffects.{do_answer, do_reply}
 use Rattle.command_session.specs.WholeCalls.{whole_calls, write_calls, wrote_answer}
-use Rattle.state_commands.specs.StateEffects.{unit_claim, flushed_with, save_by, save_reply, heard_live, unless_failed, listening_each, listened_back, restored_by, unless_missing, restored_as, restored_from, restore_reply}
+use Rattle.state_commands.specs.StateEffects.{unit_claim, flushed_with, save_by, save_reply, heard_live, listened_back, restored_by, unless_missing, restored_as, restored_from, restore_reply}
 use Rattle.command_session.specs.Occupied.{is_occupied}
 use Rattle.command_session.specs.TapeEffects.{tape_in, tape_answer, loaded_machine, load_answer, load_reply, can_dump, dump_of, dump_answer, dump_reply}
 use Rattle.scp_commands.specs.Effect.{effect}

@@ -18,6 +18,7 @@ use Rattle.whole_files.specs.Whole.{WholeSaid, WholeIs, whole_act}
 use Rattle.whole_files.specs.Whole as whole
 use Rattle.file_commands.specs.Notes.{CommandNote, failure_now}
 use Rattle.nova_memory.specs.Memory.{fits_size}
+use Rattle.terminal_ports.specs.Listening.{listening_each}
 use Rattle.nova_machine.specs.Seen.{attached_in}
 use Rattle.nova_machine.specs.Machine.{MachineState}
 use Rattle.nova_machine.specs.Run.{run}
@@ -60,7 +61,7 @@ use Rattle.plain_commands.specs.SetEffects.{set_size_reply, set_autobit_reply}
 use Rattle.plain_commands.specs.ScriptEffects.{test_answer, echo_reply, assert_reply, goto_reply}
 use Rattle.host_commands.specs.DoEffects.{do_answer, do_reply}
 use Rattle.command_session.specs.WholeCalls.{whole_calls, write_calls, wrote_answer}
-use Rattle.state_commands.specs.StateEffects.{unit_claim, flushed_with, save_by, save_reply, listening_each, heard_live, listened_back, restored_by, unless_missing, restored_as, restored_from, restore_reply}
+use Rattle.state_commands.specs.StateEffects.{unit_claim, flushed_with, save_by, save_reply, heard_live, listened_back, restored_by, unless_missing, restored_as, restored_from, restore_reply}
 use Rattle.command_session.specs.Occupied.{is_occupied}
 use Rattle.state_text.specs.declared.fault.StateFault.{StateFault}
 use Rattle.state_transfer.specs.Ports.{ports_wanted}

@@ -1,8 +1,8 @@
 -- What texts leave of the ports and the connections of the outside.
-use Rattle.std.proofs.Common.{◌≡◌, ◌∙◌, inl, inr, ap, sym, subst, ℕ, Bool, false, List, [], ◌∷◌, Option, Ok, Err}
+use Rattle.std.proofs.Common.{◌≡◌, ◌∙◌, inl, inr, ap, sym, subst, ℕ, Bool, false, List, Option, Ok, Err}
 use Rattle.file_traits.specs.Lists.{NamedBytes}
 use Rattle.host_lines.specs.declared.lines.ListenFault.TheVariants as listen
-use Rattle.host_lines.specs.Traffic.{Answer as LineAnswer, Quiet, Ahead, Replied, replied, listening}
+use Rattle.host_lines.specs.Traffic.{Answer as LineAnswer}
 use Rattle.host_lines.specs.Told.{Told, IsFirst, record_in, ahead_of}
 use Rattle.host_lines.specs.State.{LineState, parties}
 use Rattle.telnet_lines.specs.Line.{LineOf}
@@ -16,8 +16,7 @@ use Rattle.command_session.specs.LinesLeft.{LinesLeft, IsUnlistened, ListenCause
 use Rattle.command_session.proofs.PortLemmas.{left-same, seen-still}
 use Rattle.command_session.specs.Remains.{Remains}
 use Rattle.terminal_ports.specs.Listening.{TellsEach, OneRefused}
-use Rattle.nova_machine.proofs.LineSteps.{first-same, first-through}
-use Rattle.state_commands.specs.StateEffects.{unless_failed, listening_each}
+use Rattle.terminal_ports.proofs.RowTold.{each-said}
 use Rattle.scp_script.specs.Loop.{AsksRestore, HasListened, StandsShort}
 use Rattle.scp_script.specs.Used.{LinesTold}
 
@@ -51,23 +50,6 @@ remains-still : (flushes : Bool) (before : Live) (s : CommandState) (files : Lis
 remains-still flushes before s files old new whole same left = subst (λ (x : Live). Remains flushes before x) (live-still s files old new whole same) left
 
 -- ---- ports that were listened on
-
-tells-grows : (ports : List ℕ) (old new : Told) → TellsEach ports old new → IsFirst (record_in old) (record_in new)
-tells-grows [] old new same = subst (λ (t : Told). IsFirst (record_in old) (record_in t)) (sym same) (first-same (record_in old))
-tells-grows (port ∷ ports) old new (mid, (gives, later)) = first-through (record_in old) (record_in mid) (record_in new) gives.grows (tells-grows ports mid new later)
-
-unless-said : (said : Replied) (answer : LineAnswer) (ahead : Ahead) (more : Ahead → Replied) → said ≡ replied answer ahead
-    → unless_failed said.answer said.ahead more ≡ unless_failed answer ahead more
-unless-said said answer ahead more is = ap (λ (r : Replied). unless_failed r.answer r.ahead more) is
-
-each-said : (ports : List ℕ) (old new : Told) (whole : List LineAnswer) → TellsEach ports old new → IsFirst (record_in new) whole
-    → listening_each ports (ahead_of old whole) ≡ replied Quiet (ahead_of new whole)
-unfolding listening_each
-each-said [] old new whole same first = ap (λ (t : Told). replied Quiet (ahead_of t whole)) (sym same)
-each-said (port ∷ ports) old new whole (mid, (gives, later)) first =
-    unless-said (listening (ahead_of old whole)) Quiet (ahead_of mid whole) (listening_each ports)
-    (gives.gives whole (first-through (record_in mid) (record_in new) whole (tells-grows ports mid new later) first))
-    ∙ each-said ports mid new whole later first
 
 has-listened : (ports : List ℕ) (s t : CommandState) (files files' : List NamedBytes) (old new : LineState) (whole : List LineAnswer) → parties new ≡ parties old
     → TellsEach ports old.told new.told → IsFirst (record_in new.told) whole → live_in t (beyond files' old whole) ≡ live_in s (beyond files old whole)

@@ -12,6 +12,7 @@ use Rattle.observations.specs.Observations.{Trace, text_of, reads_of, sent_of}
 use Rattle.observations.specs.Cut.{ends, cut_trace, sent_until}
 use Rattle.host_lines.specs.Traffic.{Quiet, replied}
 use Rattle.file_commands.specs.AllUnits.{IsUnwritten}
+use Rattle.terminal_ports.specs.Listening.{listening_each}
 use Rattle.scp_parser.specs.Command.{Request, Do, Restore}
 use Rattle.command_session.specs.declared.next.Next.{Next}
 use Rattle.command_session.specs.declared.next.Next.TheVariants.{Exit as ExitNext}
@@ -32,7 +33,6 @@ use Rattle.command_session.specs.Reply.{Answer, Reply}
 use Rattle.command_session.specs.FaultText.{fault_text}
 use Rattle.command_session.specs.Asked.{Asked, asked}
 use Rattle.command_session.specs.Remains.{Remains, flushes_of, reader_of}
-use Rattle.state_commands.specs.StateEffects.{listening_each}
 use Rattle.command_session.specs.DiskFile.{disk_alone}
 use Rattle.command_session.specs.Doing.{IsSaid, IsBrokenOff, Does, ComeBehind, CommandOpens, OpensNone, opens_of, most_unnoted, most_opened}
 use Rattle.scp_script.specs.declared.progress.CommandLoop.{CommandLoop}

@@ -1,9 +1,9 @@
 -- A session whose next text is a RESTORE that has listened on ports, and for which memory ran out then, stands as every one does.
 use Rattle.std.proofs.Common.{ap, sym, subst, if◌then◌else◌, ℕ, Bool, true, false, List, [], ◌∷◌}
 use Rattle.host_lines.specs.Traffic.{Answer as LineAnswer, Quiet, Failed, Ahead, Script, Answers, Replied, replied, begun, listening}
+use Rattle.terminal_ports.specs.Listening.{unless_failed, listening_each}
 use Rattle.nova_machine.specs.Valid.{ValidAhead}
 use Rattle.command_session.specs.Live.{Live}
-use Rattle.state_commands.specs.StateEffects.{unless_failed, listening_each}
 use Rattle.command_laws.specs.Valid.{ValidLive}
 use Rattle.scp_script.specs.Session.{Upcoming, Ends, Comes}
 use Rattle.scp_script.specs.Loop.{HasListened, HasListenedAt}
