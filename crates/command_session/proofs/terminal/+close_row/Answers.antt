@@ -11,22 +11,22 @@ use Rattle.command_session.proofs.terminal.+close_row.Goals as goal
 
 -- ---- a row of none
 
-pub returns-then-row-count-eq0-clause-machine : goal.returns-then-row-count-eq0-clause-machine
-returns-then-row-count-eq0-clause-machine g t c =
+pub returns-then-row-eq0-clause-machine : goal.returns-then-row-eq0-clause-machine
+returns-then-row-eq0-clause-machine g t c =
     let m = c.args.machine.now in
     ap (λ (ls : List (LineOf ℕ)). record m { lines = ls })
-    (sym (none-changed c.args.row.count (place_of c.args.row.number) closed m.lines c.if-row-count-eq0.true))
+    (sym (none-changed c.args.row.count (place_of c.args.row.number) closed m.lines c.if-row-eq0.true))
 
-pub returns-then-row-count-eq0-clause-left : goal.returns-then-row-count-eq0-clause-left
-returns-then-row-count-eq0-clause-left g t c = left-same g.L.Lines.tells (g.L.Lines.state c.args.lines.now) c.args.machine.now.lines
+pub returns-then-row-eq0-clause-left : goal.returns-then-row-eq0-clause-left
+returns-then-row-eq0-clause-left g t c = left-same g.L.Lines.tells (g.L.Lines.state c.args.lines.now) c.args.machine.now.lines
 
-pub returns-then-row-count-eq0-clause-row : goal.returns-then-row-count-eq0-clause-row
-returns-then-row-count-eq0-clause-row g t c =
-    none-close c.args.row.count (place_of c.args.row.number) (g.L.Lines.state c.args.lines.now) c.args.machine.now.lines c.if-row-count-eq0.true
+pub returns-then-row-eq0-clause-row : goal.returns-then-row-eq0-clause-row
+returns-then-row-eq0-clause-row g t c =
+    none-close c.args.row.count (place_of c.args.row.number) (g.L.Lines.state c.args.lines.now) c.args.machine.now.lines c.if-row-eq0.true
 
-pub returns-then-row-count-eq0-clause-seen : goal.returns-then-row-count-eq0-clause-seen
-returns-then-row-count-eq0-clause-seen g t c = λ told.
-    none-seen c.args.row.count (place_of c.args.row.number) (g.L.Lines.state c.args.lines.now) c.args.machine.now.lines c.if-row-count-eq0.true
+pub returns-then-row-eq0-clause-seen : goal.returns-then-row-eq0-clause-seen
+returns-then-row-eq0-clause-seen g t c = λ told.
+    none-seen c.args.row.count (place_of c.args.row.number) (g.L.Lines.state c.args.lines.now) c.args.machine.now.lines c.if-row-eq0.true
 
 -- ---- the first of some, and those behind it
 
