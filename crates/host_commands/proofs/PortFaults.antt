@@ -19,7 +19,7 @@ use Rattle.command_session.specs.LineEffects.{row_for, first_place, has_row, row
 -- ---- by the tests
 
 -- the fault of ATTACH, and that of DETACH, by what the tests say
-abbrev attach_by : Bool → Option ℕ → Bool → Bool → Option CommandFault
+abbrev pub attach_by : Bool → Option ℕ → Bool → Bool → Option CommandFault
 attach_by there own range taken =
     if not there then Some NoSuchName
     else if is_some own then Some AlreadyAttached
@@ -27,7 +27,7 @@ attach_by there own range taken =
     else if taken then Some PortTaken
     else None
 
-abbrev detach_by : Bool → Option ℕ → Option CommandFault
+abbrev pub detach_by : Bool → Option ℕ → Option CommandFault
 detach_by there own = if not there then Some NoSuchName else if is_none own then Some NotAttached else None
 
 module _ {P : Type 0} (row : LineRow) (port : ℕ) (lines : List (LineOf P)) where
@@ -35,16 +35,9 @@ module _ {P : Type 0} (row : LineRow) (port : ℕ) (lines : List (LineOf P)) whe
   unfolding attach_fault
   attach-tests = refl
 
-  detach-tests : detach_fault row lines ≡ detach_by (has_row row lines) (row_port row lines)
-  unfolding detach_fault
-  detach-tests = refl
-
   pub attach-is : (there : Bool) (own : Option ℕ) (range taken : Bool) → there ≡ has_row row lines → own ≡ row_port row lines → range ≡ are_ports port row.count
       → taken ≡ are_taken row.count port lines → attach_by there own range taken ≡ attach_fault row port lines
   attach-is there own range taken is has low free = (λ i. attach_by (is i) (has i) (low i) (free i)) ∙ sym attach-tests
-
-  pub detach-is : (there : Bool) (own : Option ℕ) → there ≡ has_row row lines → own ≡ row_port row lines → detach_by there own ≡ detach_fault row lines
-  detach-is there own is has = (λ i. detach_by (is i) (has i)) ∙ sym detach-tests
 
   -- what holds of each of these faults holds of that one, if there is one
   pub attach-each : (Is : CommandFault → Type 0) → Is NoSuchName → Is AlreadyAttached → Is OutOfRange → Is PortTaken → IfSome (attach_fault row port lines) Is
@@ -59,16 +52,7 @@ module _ {P : Type 0} (row : LineRow) (port : ℕ) (lines : List (LineOf P)) whe
       by true None true true = taken
       by true None true false = tt
 
-  pub detach-each : (Is : CommandFault → Type 0) → Is NoSuchName → Is NotAttached → IfSome (detach_fault row lines) Is
-  detach-each Is missing free =
-      subst (λ (o : Option CommandFault). IfSome o Is) (sym detach-tests) (by (has_row row lines) (row_port row lines))
-    where
-      by : (a : Bool) (b : Option ℕ) → IfSome (detach_by a b) Is
-      by false b = missing
-      by true None = free
-      by true (Some p) = tt
-
-  -- where there is none, the row is there, and no line has one of the ports, which are such
+  -- where there is none, the row is there, the ports are such, and no line has one of them
   pub attach-asks : attach_fault row port lines ≡ None → (has_row row lines ≡ true) × (are_ports port row.count ≡ true) × (are_taken row.count port lines ≡ false)
   attach-asks none = by (has_row row lines) (row_port row lines) (are_ports port row.count) (are_taken row.count port lines) (sym attach-tests ∙ none)
     where
@@ -79,7 +63,7 @@ module _ {P : Type 0} (row : LineRow) (port : ℕ) (lines : List (LineOf P)) whe
       by true None true true none = absurd (cc)
       by true None true false none = (refl, refl, refl)
 
-  -- the row is not there just where that is the fault
+  -- `No such name` comes just where the row is not there
   pub attach-missing : (attach_fault row port lines ≡ Some NoSuchName) ↔ (has_row row lines ≡ false)
   attach-missing = by (has_row row lines) (row_port row lines) (are_ports port row.count) (are_taken row.count port lines) attach-tests
     where
@@ -89,6 +73,25 @@ module _ {P : Type 0} (row : LineRow) (port : ℕ) (lines : List (LineOf P)) whe
       by true None false d is = (λ same. absurd (let both : Some OutOfRange ≡ Some NoSuchName = sym is ∙ same in cc), λ gone. absurd (cc))
       by true None true true is = (λ same. absurd (let both : Some PortTaken ≡ Some NoSuchName = sym is ∙ same in cc), λ gone. absurd (cc))
       by true None true false is = (λ same. absurd (let both : None ≡ Some NoSuchName = sym is ∙ same in cc), λ gone. absurd (cc))
+
+-- ---- the same of DETACH
+
+module _ {P : Type 0} (row : LineRow) (lines : List (LineOf P)) where
+  detach-tests : detach_fault row lines ≡ detach_by (has_row row lines) (row_port row lines)
+  unfolding detach_fault
+  detach-tests = refl
+
+  pub detach-is : (there : Bool) (own : Option ℕ) → there ≡ has_row row lines → own ≡ row_port row lines → detach_by there own ≡ detach_fault row lines
+  detach-is there own is has = (λ i. detach_by (is i) (has i)) ∙ sym detach-tests
+
+  pub detach-each : (Is : CommandFault → Type 0) → Is NoSuchName → Is NotAttached → IfSome (detach_fault row lines) Is
+  detach-each Is missing free =
+      subst (λ (o : Option CommandFault). IfSome o Is) (sym detach-tests) (by (has_row row lines) (row_port row lines))
+    where
+      by : (a : Bool) (b : Option ℕ) → IfSome (detach_by a b) Is
+      by false b = missing
+      by true None = free
+      by true (Some p) = tt
 
   pub detach-missing : (detach_fault row lines ≡ Some NoSuchName) ↔ (has_row row lines ≡ false)
   detach-missing = by (has_row row lines) (row_port row lines) detach-tests
@@ -109,11 +112,13 @@ module _ (s : LineState) (row : LineRow) (lines : List (LineOf ℕ)) where
 
   pub attach-seen : (port : ℕ) → attach_fault row port (map (seen_line s) lines) ≡ attach_fault row port lines
   attach-seen port =
-      sym (attach-is row port (map (seen_line s) lines) _ _ _ _ (sym seen-there) (sym seen-own) refl (sym (seen-taken s row.count port lines)))
+      sym (attach-is row port (map (seen_line s) lines) (has_row row lines) (row_port row lines) (are_ports port row.count) (are_taken row.count port lines)
+      (sym seen-there) (sym seen-own) refl (sym (seen-taken s row.count port lines)))
       ∙ sym (attach-tests row port lines)
 
   pub detach-seen : detach_fault row (map (seen_line s) lines) ≡ detach_fault row lines
-  detach-seen = sym (detach-is row 0 (map (seen_line s) lines) _ _ (sym seen-there) (sym seen-own)) ∙ sym (detach-tests row 0 lines)
+  detach-seen =
+      sym (detach-is row (map (seen_line s) lines) (has_row row lines) (row_port row lines) (sym seen-there) (sym seen-own)) ∙ sym (detach-tests row lines)
 
 -- ---- by the units
 
