@@ -1,4 +1,4 @@
-use Rattle.std.proofs.Common.{◌≡◌, ℕ, List, slice_set, Some, ap, sym, ◌∙◌}
+use Rattle.std.proofs.Common.{ℕ, List, slice_set, Some, ap, sym, ◌∙◌}
 use Rattle.telnet_lines.specs.Line.{LineOf, unconnected}
 use Rattle.nova_machine.specs.Machine.{place_of}
 use Rattle.terminal_ports.proofs.PortsApart.{changed-set, changed-none}
