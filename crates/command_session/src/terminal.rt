@@ -1,14 +1,16 @@
-// The line of the second teletype, and how its port is given up.
-ghost use Rattle.std.specs.Prelude.{◌≡◌, None};
+// The lines of the units that have ports, and how the ports of a row of them are given up.
+ghost use Rattle.std.specs.Prelude.{◌≡◌, ◌≤◌, ◌<◌, ◌+◌, ◌^◌, slice_get};
+ghost use Rattle.terminal_ports.specs.Ports.{changed_at};
+ghost use Rattle.nova_machine.specs.Machine.{place_of};
 ghost use Rattle.nova_machine.specs.LineChanges.{AreLinesTold};
-ghost use Rattle.command_session.specs.LineEffects.{is_terminal, row_for, every_row, unported};
+ghost use Rattle.command_session.specs.LineEffects.{row_for, closed, unported};
 ghost use Rattle.command_session.specs.LinesLeft.{LinesLeft, SeenAs};
-ghost use Rattle.command_session.specs.PortAnswers.{ClosesRow};
+ghost use Rattle.command_session.specs.PortAnswers.{closes_at, ClosesRow};
 
 use crate::line_ports::close;
 use host_lines::Lines;
 use nova_machine::Machine;
-use unit_trait::Unit;
+use unit_trait::{Kind, Unit};
 
 /// A row of a machine's terminal lines: the number of the first, and how many there are.
 #[derive(Clone, Copy, Debug, PartialEq, Eq)]
@@ -26,7 +28,7 @@ pub const EVERY_ROW: LineRow = LineRow {
 /// The number of the second teletype's line.
 pub const TERMINAL: u8 = 0;
 
-/// The lines of a unit that has ports.
+/// The lines of a unit that has ports: those of the multiplexer, and of any other kind the line of the second teletype.
 pub fn row_for(kind: Kind) -> LineRow
     ensures row { result ≡ row_for kind }
     ensures some { 1 ≤ result.count }
@@ -63,4 +65,23 @@ pub fn close_row<U: Unit, L: Lines>(machine: &mut Machine<U>, row: LineRow, line
         count: row.count - 1,
     };
     close_row(machine, others, lines);
+}
+
+// Gives up the port of one line, where that is there and has one, and drops the connection.
+fn close_one<U: Unit, L: Lines>(machine: &mut Machine<U>, number: u8, lines: &mut L)
+    ensures machine { machine.new ≡ record machine.old {
+      lines = changed_at (place_of number) closed machine.old.lines;
+    } }
+    ensures left { LinesLeft L.tells (L.state lines.old) machine.old.lines (L.state lines.new) machine.new.lines }
+    ensures line { closes_at (place_of number) (slice_get machine.old.lines (place_of number)) (L.state lines.old)
+        machine.old.lines (L.state lines.new) machine.new.lines }
+    ensures seen { AreLinesTold L.tells (L.state lines.old) machine.old.lines
+        → SeenAs (changed_at (place_of number) closed) (L.state lines.old) machine.old.lines (L.state lines.new)
+        machine.new.lines }
+    ensures sent { (L.state lines.new).sent ≡ (L.state lines.old).sent }
+{
+    match machine.line(number) {
+        None => (),
+        Some(line) => close(line, lines),
+    }
 }

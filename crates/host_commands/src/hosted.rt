@@ -95,7 +95,7 @@ pub fn obey_host<U: Unit, F: Files, L: Lines>(
         Verb::Attach { option, unit, .. } => {
             attach(alloc, session, *option, *unit, command.file_name(), files)
         }
-        Verb::AttachPort { port, .. } => attach_port(alloc, session, *port, lines),
+        Verb::AttachPort { kind, port } => attach_port(alloc, session, *kind, *port, lines),
         Verb::Detach(unit) => detach_one_or_every(session, *unit, files, lines),
         Verb::Disconnect(_) => disconnect(session, lines),
         Verb::Exit(status) => exit(session, *status, files, lines),

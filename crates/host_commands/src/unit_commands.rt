@@ -110,8 +110,8 @@ pub fn attach<U: Unit, F: Files>(
     }
 }
 
-/// DETACH closes a unit's file, or gives up the port of the second teletype; where none is named, all units lose their
-/// files, and then the teletype its port. It prints nothing.
+/// DETACH closes a unit's file, or gives up the ports of the second teletype or of the multiplexer; where none is named,
+/// all units lose their files, then the teletype its port, and then the multiplexer its ports. It prints nothing.
 pub fn detach_one_or_every<U: Unit, F: Files, L: Lines>(
     session: &mut Session<U>,
     unit: Option<UnitName>,
@@ -156,7 +156,7 @@ pub fn detach_one_or_every<U: Unit, F: Files, L: Lines>(
 {
     match unit {
         None => detach_every(session, files, lines),
-        Some(unit) if is_terminal(unit) => detach_port(session, lines),
+        Some(unit) if is_terminal(unit) => detach_port(session, unit.kind, lines),
         Some(unit) => detach(session, unit, files),
     }
 }
@@ -213,7 +213,7 @@ fn detach<U: Unit, F: Files>(
     }
 }
 
-// DETACH ALL takes the files of all units away, and then the port of the second teletype.
+// DETACH ALL takes the files of all units away, then the port of the second teletype, and then those of the multiplexer.
 #[tactic(auto, unfolding(command_session::specs::FileEffects::detach_all_reply))]
 fn detach_every<U: Unit, F: Files, L: Lines>(
     session: &mut Session<U>,

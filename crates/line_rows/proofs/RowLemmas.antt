@@ -1,6 +1,6 @@
 -- Rows of lines of a machine, whose places are those behind the console line.
 use Rattle.std.proofs.Common.{◌≡◌, ℕ, zero, suc, ◌+◌, ◌-◌, ◌<◌, ◌≤◌, ◌||◌, Bool, true, false, List, [], ◌∷◌, length, slice_get, Option, Some, None, is_some, option_map, ap, sym, refl, ◌∙◌, arith}
-use Rattle.std.specs.Prelude.{nat_le, if◌then◌else◌}
+use Rattle.std.specs.Prelude.{nat_le, nat_lt, if◌then◌else◌}
 use Rattle.std.proofs.lemmas.Bool.{le-leb, lt-leb}
 use Rattle.std.proofs.lemmas.Bool.Decides.{nat_tests}
 use Rattle.telnet_lines.specs.Line.{LineOf, unconnected}
@@ -42,6 +42,10 @@ pub row-there : {P : Type 0} (number count : ℕ) (lines : List (LineOf P)) → 
 row-there number count lines some =
     there-below lines (place_of (number + (count - 1)))
     ∙ ap (λ (n : ℕ). nat_le n (length lines)) (omega (arith, some))
+
+-- the same, by how many lines the units of a machine give
+pub row-counted : (number count many : ℕ) → 1 ≤ count → nat_lt (number + (count - 1)) many ≡ nat_le (number + count) many
+row-counted number count many some = grind (arith, nat_tests)
 
 -- ---- a row and its first line
 

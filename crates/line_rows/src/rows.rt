@@ -3,17 +3,19 @@ ghost use Rattle.std.specs.Prelude.{◌≡◌, ℕ, ◌+◌, ◌<◌, ◌≤◌,
 ghost use Rattle.telnet_lines.specs.Line.{LineOf, unconnected};
 ghost use Rattle.terminal_ports.specs.Ports.{is_taken};
 ghost use Rattle.terminal_ports.specs.Rows.{port_at, first_port, AreFree, are_taken, is_connected, connected_in};
-ghost use Rattle.nova_machine.specs.Machine.{place_of};
+ghost use Rattle.nova_machine.specs.Machine.{place_of, line_count};
 
 use nova_machine::Machine;
 use terminal_ports::owns;
 use unit_trait::Unit;
 
-/// Whether the terminal lines of a row are all there: so many, from the line with that number on.
+/// Whether the terminal lines of a row are all there: so many, from the line with that number on. The machine's units say
+/// which lines it has.
 pub fn has_row<U: Unit>(machine: &Machine<U>, number: u8, count: u8) -> bool
     requires some { 1 ≤ count }
     requires numbers { number + count < 2 ^ 8 }
-    ensures { result ≡ nat_le (place_of number + count) (length machine.now.lines) }
+    ensures lines { result ≡ nat_le (place_of number + count) (length machine.now.lines) }
+    ensures units { result ≡ nat_le (number + count) (line_count machine.now.units) }
 {
     machine.line_at(number + (count - 1)).is_some()
 }
