@@ -1,5 +1,5 @@
-//! Rows of a machine's terminal lines, one line behind another: whether they are there, the ports that they have or get, and
-//! who is connected.
+//! Rows of a machine's terminal lines, one line behind another: whether they are there, the ports that they have or
+//! get, and who is connected.
 #![tactic(auto)]
 
 pub mod putting_ports;

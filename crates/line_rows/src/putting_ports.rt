@@ -8,9 +8,9 @@ ghost use Rattle.nova_machine.specs.Machine.{place_of};
 use nova_machine::Machine;
 use unit_trait::Unit;
 
-/// Gives the terminal lines of a row their ports, from the line with that number on: the first gets that port, and each
-/// other one the port behind that of the line before it. Nobody is connected to them then. A line that is not there gets
-/// none.
+/// Gives the terminal lines of a row their ports, from the line with that number on: the first gets that port, and
+/// each other one the port behind that of the line before it. Nobody is connected to them then. A line that is not
+/// there gets none.
 pub fn put_row<U: Unit>(machine: &mut Machine<U>, number: u8, port: u32, count: u8)
     requires numbers { number + count < 2 ^ 8 }
     requires range { port + count ≤ 2 ^ 16 }

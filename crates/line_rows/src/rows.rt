@@ -9,8 +9,8 @@ use nova_machine::Machine;
 use terminal_ports::owns;
 use unit_trait::Unit;
 
-/// Whether the terminal lines of a row are all there: so many, from the line with that number on. The machine's units say
-/// which lines it has.
+/// Whether the terminal lines of a row are all there: so many, from the line with that number on. The machine's units
+/// say which lines it has.
 pub fn has_row<U: Unit>(machine: &Machine<U>, number: u8, count: u8) -> bool
     requires some { 1 ≤ count }
     requires numbers { number + count < 2 ^ 8 }
@@ -22,7 +22,8 @@ pub fn has_row<U: Unit>(machine: &Machine<U>, number: u8, count: u8) -> bool
 
 // ---- the ports that they have
 
-/// The port of the first line of a row that has one. Where none has, nobody is connected to any of them, and nothing waits.
+/// The port of the first line of a row that has one. Where none has, nobody is connected to any of them, and nothing
+/// waits.
 pub fn first_port<U: Unit>(machine: &Machine<U>, number: u8, count: u8) -> Option<u16>
     requires numbers { number + count < 2 ^ 8 }
     ensures port { result ≡ first_port count (place_of number) machine.now.lines }

@@ -1,4 +1,4 @@
-use Rattle.std.proofs.Common.{rules, ◌≡◌, ◌∙◌, false, ap, sym, subst, Some, Bool, Err, length}
+use Rattle.std.proofs.Common.{rules, ◌≡◌, ◌∙◌, ap, sym, subst, Some, Bool, Err, length}
 use Rattle.std.proofs.lemmas.Result.{err_from_is_err_and}
 use Rattle.unit_files.specs.Attachments.{held_at, no_attachments}
 use Rattle.terminal_ports.specs.Rows.{with_ports}
