@@ -5,7 +5,7 @@ ghost use Rattle.unit_trait.specs.declared.kind.Kind.TheVariants.{Tto as telepri
 ghost use Rattle.unit_trait.specs.declared.kind.Kind.TheVariants.{Tti1 as second_keyboards, Tto1 as second_printers};
 ghost use Rattle.unit_trait.specs.declared.kind.Kind.TheVariants.{Qty as multiplexers};
 ghost use Rattle.unit_trait.specs.Row.{initial_unit};
-ghost use Rattle.command_words.specs.Standard.{IsStandard, standard_units};
+ghost use Rattle.command_words.specs.Standard.{standard_units, all_units};
 
 use crate::boxes::{four, push_four, push_two, two};
 use clock_unit::Clk;
@@ -113,11 +113,11 @@ pub fn boxed_multiplexer(alloc: Global) -> Result<Box<Qty>, OutOfMemory>
     Ok(Box::new(alloc, Qty::new())?)
 }
 
-/// The list of these units, which are the standard ones, with a multiplexer behind them.
+/// These units, which are the standard ones without the multiplexer, and a multiplexer behind them.
 pub fn with_multiplexer<U: Unit>(units: Vec<U>, multiplexer: U) -> Result<Vec<U>, OutOfMemory>
     requires units { map U.unit_state units.items ≡ standard_units }
     requires multiplexer { U.unit_state multiplexer ≡ initial_unit multiplexers }
-    ensures { IfOk result (λ units. IsStandard (map U.unit_state units.items)) }
+    ensures { IfOk result (λ units. map U.unit_state units.items ≡ all_units) }
 {
     let mut units = units;
     units.push(multiplexer)?;
