@@ -249,9 +249,10 @@ module _ (tells : Bool) (row : LineRow) (port : ℕ) (answer : Answer) (old new 
       listened (Err listen.OutOfMemory) is = absurd (cc)
 
       by : (o : Option CommandFault) → attaches_by o tells row port answer old before new after → (answer ≡ Err NoSuchName) ↔ (o ≡ Some NoSuchName)
-      by (Some fault) stays =
-          (λ is. let both : Err fault ≡ Err NoSuchName = sym stays.answer_is ∙ is in let own : fault ≡ NoSuchName = cc in ap Some own,
-          λ is. let own : fault ≡ NoSuchName = cc in stays.answer_is ∙ ap Err own)
+      by (Some fault) stays = (
+        λ is. let both : Err fault ≡ Err NoSuchName = sym stays.answer_is ∙ is in let own : fault ≡ NoSuchName = cc in ap Some own,
+        λ is. let own : fault ≡ NoSuchName = cc in stays.answer_is ∙ ap Err own,
+      )
       by None tried = (λ is. absurd (listened tried.result (sym tried.answer_is ∙ is)), λ is. absurd (cc))
 
 -- a listening that came to nothing is the cause of two answers

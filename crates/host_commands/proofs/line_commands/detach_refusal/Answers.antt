@@ -1,4 +1,4 @@
-use Rattle.std.proofs.Common.{◌≡◌, ◌∙◌, ap, sym, Bool, true, false, not, is_none}
+use Rattle.std.proofs.Common.{◌≡◌, ◌∙◌, ap, sym, true, false, not, is_none}
 use Rattle.command_session.specs.LineEffects.{row_port}
 use Rattle.host_commands.proofs.PortFaults.{detach-gone, detach-by, none-some, not-not}
 use Rattle.host_commands.proofs.line_commands.detach_refusal.Goals as goal
