@@ -1,5 +1,5 @@
 -- What RESTORE leaves of the lines.
-use Rattle.std.proofs.Common.{◌≡◌, ◌≢◌, inl, inr, ℕ, zero, suc, ◌+◌, ◌<◌, ◌≤◌, ◌++◌, append-nil, Bool, true, false, true≢false, List, [], ◌∷◌, length, map, slice_get, Option, Some, None, IfSome, IsTrue, is_some, Ok, Err, refl, ap, sym, ◌∙◌, subst, arith}
+use Rattle.std.proofs.Common.{◌≡◌, inl, inr, ℕ, zero, suc, ◌+◌, ◌<◌, ◌≤◌, ◌++◌, append-nil, Bool, true, false, true≢false, List, [], ◌∷◌, length, map, slice_get, Option, Some, None, IfSome, IsTrue, is_some, Ok, Err, refl, ap, sym, ◌∙◌, subst, arith}
 use Rattle.std.specs.List.{AllByRecursion}
 use Rattle.std.proofs.lemmas.Option.{same_Some}
 use Rattle.host_lines.specs.declared.lines.ListenFault.{ListenFault}
