@@ -9,8 +9,8 @@ use nova_machine::Machine;
 use terminal_ports::owns;
 use unit_trait::Unit;
 
-/// Whether the terminal lines of a row are all there: so many, from the line with that number on. The machine's units say
-/// which lines it has.
+/// Whether the terminal lines of a row are all there: so many, from the line with that number on. The machine's units
+/// say which lines it has.
 pub fn has_row<U: Unit>(machine: &Machine<U>, number: u8, count: u8) -> bool
     requires some { 1 ≤ count }
     requires numbers { number + count < 2 ^ 8 }
