@@ -170,8 +170,8 @@ kept_answer (Some unit) next = Err (FileFailed (subject.Unit unit))
 abbrev pub emptied_reply : Next → Emptied → Live → Reply
 emptied_reply next e live = record { made = []; answer = kept_answer e.kept next; after = standing e.used (emptied_live e live) }
 
--- DETACH ALL takes the files of all units away, in bus order, up to one that could not be written back, and then the ports
--- of the terminal lines
+-- DETACH ALL takes the files of all units away, in bus order, up to one that could not be written back, and then the
+-- ports of the terminal lines
 unfoldable pub detach_all_reply : List CommandNote → Live → Reply
 detach_all_reply notes live = emptied_reply Go (emptied_all notes live) live
 

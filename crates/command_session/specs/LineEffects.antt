@@ -1,5 +1,5 @@
--- ATTACH, DETACH and SHOW of the units whose lines have ports in place of a file, the second teletype and the multiplexer, and
--- SET of the first (SIMH Users' Guide, "Attaching Devices" and "Connecting Terminals").
+-- ATTACH, DETACH and SHOW of the units whose lines have ports in place of a file, the second teletype and the
+-- multiplexer, and SET of the first (SIMH Users' Guide, "Attaching Devices" and "Connecting Terminals").
 use Rattle.std.specs.Prelude.{ℕ, ◌+◌, ◌-◌, ◌==◌, ◌&&◌, nat_le, Bool, true, false, not, is_none, is_some, List, [], ◌∷◌, ◌++◌, codes, decimal, length, slice_get, Option, Some, None, Ok, Err, if◌then◌else◌}
 use Rattle.unit_trait.specs.declared.kind.Kind.{Kind}
 use Rattle.unit_trait.specs.declared.kind.Kind.TheVariants.{Tti1, Qty}
@@ -96,8 +96,8 @@ unless_refused None reply live = reply
 abbrev pub are_ports : ℕ → ℕ → Bool
 are_ports port count = nat_le 1 port && nat_le (port + count) 65536
 
--- Why a row of lines is given no such ports, before any is listened on: the row is not there, a line of it has a port, one of
--- them is out of its range, or any line has one of them.
+-- Why a row of lines is given no such ports, before any is listened on: the row is not there, a line of it has a port,
+-- one of them is out of its range, or any line has one of them.
 unfoldable pub attach_fault : {P : Type 0} → LineRow → ℕ → List (LineOf P) → Option CommandFault
 attach_fault row port lines =
     if not (has_row row lines) then Some NoSuchName

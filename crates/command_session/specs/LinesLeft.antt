@@ -28,10 +28,11 @@ HasPort port (line ∷ lines) = (line.port ≡ Some port) ⊎ HasPort port lines
 abbrev pub AreListened : LineState → List (LineOf ℕ) → Type 0
 AreListened s lines = AllByRecursion (λ (line : LineOf ℕ). IfSome line.port (IsListened s)) lines
 
--- What a call leaves: each port that is listened on and each connection that stands is one that a line has, or was there
--- before and no line's; the count of faults has not fallen. Where no two lines had one port, none have, and the port of each line is
--- listened on if those of all lines were before. Where the outside tells what comes, what callers had heard stays in front of what they hear then; and
--- where no two lines have one connection, none have then, and a record of answers has grown at its end.
+-- What a call leaves: each port that is listened on and each connection that stands is one that a line has, or was
+-- there before and no line's; the count of faults has not fallen. Where no two lines had one port, none have, and the
+-- port of each line is listened on if those of all lines were before. Where the outside tells what comes, what callers
+-- had heard stays in front of what they hear then; and where no two lines have one connection, none have then, and a
+-- record of answers has grown at its end.
 pub record LinesLeft (tells : Bool) (old : LineState) (before : List (LineOf ℕ)) (new : LineState) (after : List (LineOf ℕ)) : Type 0 where
   pub ports : (port : ℕ) → IsTrue (new.listens port) → HasPort port after ⊎ (IsTrue (old.listens port) × (¬ HasPort port before))
   pub owned : (conn : ℕ) → IsTrue (new.stands conn) → HasConnection conn after ⊎ (IsTrue (old.stands conn) × (¬ HasConnection conn before))
@@ -77,15 +78,15 @@ IsUnlistened (AttachPort kind port) answer = Unlistened answer
 IsUnlistened (Restore force name) answer = Unlistened answer
 IsUnlistened request answer = ⊥
 
--- `Port not available` comes only where a listening failed, and the count of faults rose. The ports before it were given up
--- again, and so were they where memory ran out.
+-- `Port not available` comes only where a listening failed, and the count of faults rose. The ports before it were
+-- given up again, and so were they where memory ran out.
 abbrev pub AttachCause : Bool → Kind → ℕ → Answer → LineState → LineState → Type 0
 AttachCause tells kind port (Err PortFailed) old new = ListensEach tells (rising (row_for kind).count port) (Err listen.Failed) old new
 AttachCause tells kind port (Err OutOfMemory) old new = ListensEach tells (rising (row_for kind).count port) (Err listen.OutOfMemory) old new
 AttachCause tells kind port answer old new = Unit {0}
 
--- The ports of a saved session were listened on one behind another: one was not to be had, or memory ran out before it, and
--- those before it were given up again.
+-- The ports of a saved session were listened on one behind another: one was not to be had, or memory ran out before it,
+-- and those before it were given up again.
 pub record SomeRefused (tells : Bool) (fault : ListenFault) (old new : LineState) : Type 0 where
   pub ports : List ℕ
   pub listened : ListensEach tells ports (Err fault) old new

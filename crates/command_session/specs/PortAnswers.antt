@@ -56,8 +56,8 @@ AttachesPort tells kind port answer old before new after = AttachesRow tells (ro
 
 -- ---- DETACH
 
--- The line at a place came to this, and all others are as they were. Where it had a port, that port was given up, if one was
--- to be, and its connection ended; else nothing was asked of the outside.
+-- The line at a place came to this, and all others are as they were. Where it had a port, that port was given up, if
+-- one was to be, and its connection ended; else nothing was asked of the outside.
 pub record DropsAt (place : ℕ) (changed : LineOf ℕ) (given : Option ℕ) (old : LineState) (before : List (LineOf ℕ)) (line : LineOf ℕ) (new : LineState) (after : List (LineOf ℕ)) : Type 0 where
   pub lines : after ≡ slice_set before place changed
   pub none : line.port ≡ None → new ≡ old
@@ -100,7 +100,8 @@ disconnects_at place (Some line) answer old before new after =
 abbrev pub Disconnects : Answer → LineState → List (LineOf ℕ) → LineState → List (LineOf ℕ) → Type 0
 Disconnects answer old before new after = disconnects_at terminal_place (slice_get before terminal_place) answer old before new after
 
--- the ports of all terminal lines are given up, that of the second teletype and then those of the multiplexer, where they have any
+-- the ports of all terminal lines are given up, that of the second teletype and then those of the multiplexer, where
+-- they have any
 abbrev pub ClosesPorts : LineState → List (LineOf ℕ) → LineState → List (LineOf ℕ) → Type 0
 ClosesPorts old before new after = ClosesRow every_row old before new after
 

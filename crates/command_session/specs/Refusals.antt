@@ -19,9 +19,10 @@ use Rattle.command_session.specs.FileEffects.{lacks_unit, mode_of}
 use Rattle.command_session.specs.Occupied.{is_occupied}
 use Rattle.command_session.specs.TapeEffects.{can_dump}
 
--- The command is refused for nothing that can be seen before memory is wanted: a number out of range or a full table of BREAK
--- and EXPECT; a unit of ATTACH that is not built, has a file already, or only writes where its file is only to be read; ports that are
--- out of range, or that a line has, or of a unit whose lines are not there or have some; addresses of DUMP that the memory does not have; something that is attached, of RESTORE.
+-- The command is refused for nothing that can be seen before memory is wanted: a number out of range or a full table of
+-- BREAK and EXPECT; a unit of ATTACH that is not built, has a file already, or only writes where its file is only to be
+-- read; ports that are out of range, or that a line has, or of a unit whose lines are not there or have some; addresses
+-- of DUMP that the memory does not have; something that is attached, of RESTORE.
 abbrev pub IsUnrefused : Request → MachineState → WatchState → Type 0
 IsUnrefused (Break at count actions) m w =
     ((nat_le at last_address && nat_le count largest_count) ≡ true) × (lacks_room_for_break at w.breaks.list ≡ false)

@@ -1,5 +1,5 @@
 -- Why ATTACH and DETACH of ports are refused, by what is asked of a row of lines.
-use Rattle.std.proofs.Common.{◌≡◌, ◌↔◌, ◌∙◌, ap, sym, refl, subst, ℕ, ◌+◌, Bool, true, false, true≢false, not, nat_le, is_some, is_none, List, map, Option, Some, None, IfSome, if◌then◌else◌}
+use Rattle.std.proofs.Common.{◌≡◌, ◌↔◌, ◌∙◌, ap, sym, refl, subst, ℕ, ◌+◌, Bool, true, false, true≢false, not, nat_le, is_some, is_none, List, map, Option, Some, None, IfSome, Err, if◌then◌else◌}
 use Rattle.std.proofs.Math.ListN.{length-map}
 use Rattle.host_lines.specs.State.{LineState}
 use Rattle.telnet_lines.specs.Line.{LineOf}
@@ -7,13 +7,16 @@ use Rattle.telnet_lines.specs.Joined.{seen_line}
 use Rattle.unit_trait.specs.Calls.{UnitState}
 use Rattle.unit_trait.specs.declared.kind.Kind.{Kind}
 use Rattle.unit_trait.specs.declared.kind.Kind.TheVariants.{Qty}
+use Rattle.unit_trait.specs.declared.kind.UnitName.{UnitName}
 use Rattle.terminal_ports.specs.Rows.{are_taken}
 use Rattle.terminal_ports.proofs.Rows.{seen-taken, seen-first}
 use Rattle.nova_machine.specs.Machine.{has_multiplexer, has_terminal, line_count}
 use Rattle.command_session.specs.declared.terminal.LineRow.{LineRow}
 use Rattle.command_session.specs.declared.fault.CommandFault.{CommandFault}
 use Rattle.command_session.specs.declared.fault.CommandFault.TheVariants.{NoSuchName, NotAttached, AlreadyAttached, OutOfRange, PortTaken}
-use Rattle.command_session.specs.LineEffects.{row_for, first_place, has_row, row_port, are_ports, attach_fault, detach_fault}
+use Rattle.command_session.specs.Reply.{Answer}
+use Rattle.command_session.specs.LineEffects.{is_terminal_kind, is_terminal, row_for, first_place, has_row, row_port, are_ports, attach_fault, detach_fault}
+use Rattle.host_commands.specs.HostEffect.{missing_by}
 
 -- ---- by the tests: whether the row is there, and has a port, and of ATTACH whether its ports are such, and a line has one
 
@@ -159,7 +162,19 @@ multiplexer-there units = by (has_multiplexer units) (has_terminal units)
     by false true = (λ same. refl, λ same. refl)
     by false false = (λ same. refl, λ same. refl)
 
--- so `No such name` comes of the multiplexer
+-- what holds of the multiplexer alone
+pub missing-of : (kind : Kind) (answer : Answer) (units : List UnitState) → (kind ≡ Qty → (answer ≡ Err NoSuchName) ↔ (has_multiplexer units ≡ false)) → missing_by kind answer units
+missing-of Qty answer units missing = missing refl
+missing-of kind answer units missing = tt
+
+pub not-missing : (unit : UnitName) (answer : Answer) (units : List UnitState) → is_terminal unit ≡ false → missing_by unit.kind answer units
+not-missing unit answer units other = by unit.kind other
+  where
+    by : (kind : Kind) → is_terminal_kind kind ≡ false → missing_by kind answer units
+    by Qty other = absurd (true≢false other)
+    by kind other = tt
+
+-- so `No such name` comes of it
 module _ (row : LineRow) (kind : Kind) (units : List UnitState) (lines : List (LineOf ℕ)) (own : row ≡ row_for kind)
     (there : has_row row lines ≡ nat_le (row.number + row.count) (line_count units)) (is : kind ≡ Qty) where
   row-missing : (has_row row lines ≡ false) ↔ (has_multiplexer units ≡ false)

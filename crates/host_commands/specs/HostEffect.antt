@@ -1,12 +1,16 @@
 -- What the commands do that work on files and lines of the host.
-use Rattle.std.specs.Prelude.{◌≡◌, ℕ, Bool, List, Ok, Err}
+use Rattle.std.specs.Prelude.{◌≡◌, ◌↔◌, ℕ, Bool, false, List, Some, Ok, Err}
 use Rattle.file_traits.specs.State.{FileState}
 use Rattle.host_lines.specs.State.{LineState}
 use Rattle.telnet_lines.specs.Line.{LineOf}
+use Rattle.unit_trait.specs.Calls.{UnitState}
+use Rattle.unit_trait.specs.declared.kind.Kind.{Kind}
+use Rattle.unit_trait.specs.declared.kind.Kind.TheVariants.{Qty}
 use Rattle.file_commands.specs.Notes.{CommandNote}
+use Rattle.nova_machine.specs.Machine.{has_multiplexer}
 use Rattle.scp_parser.specs.Command.{Request, Attach, AttachPort, Detach, Disconnect, Do, Exit, Load, Dump}
 use Rattle.command_session.specs.declared.next.Next.TheVariants.{Ran}
-use Rattle.command_session.specs.declared.fault.CommandFault.TheVariants.{Console}
+use Rattle.command_session.specs.declared.fault.CommandFault.TheVariants.{NoSuchName, Console}
 use Rattle.command_session.specs.Live.{Live, CommandState}
 use Rattle.command_session.specs.Reply.{Answer, Reply, goes}
 use Rattle.command_session.specs.FileEffects.{attach_reply, detach_one_or_all}
@@ -54,6 +58,16 @@ HostWorks (Do echo strict name arguments) answer s t old new = DoWorks answer ol
 HostWorks (Load name) answer s t old new = LoadWorks answer s.machine t.machine old new × (t.watch ≡ s.watch)
 HostWorks (Dump from to name) answer s t old new = (t.machine ≡ s.machine) × (t.watch ≡ s.watch)
 HostWorks request answer s t old new = Unit {0}
+
+-- `No such name` is the answer just where a machine has no multiplexer, if its ports are asked for
+abbrev pub missing_by : Kind → Answer → List UnitState → Type 0
+missing_by Qty answer units = (answer ≡ Err NoSuchName) ↔ (has_multiplexer units ≡ false)
+missing_by kind answer units = Unit {0}
+
+abbrev pub MissesUnit : Request → Answer → List UnitState → Type 0
+MissesUnit (AttachPort kind port) answer units = missing_by kind answer units
+MissesUnit (Detach (Some unit)) answer units = missing_by unit.kind answer units
+MissesUnit request answer units = Unit {0}
 
 -- what its answer says of the lines
 abbrev pub HostLines : Bool → Request → Answer → LineState → List (LineOf ℕ) → LineState → List (LineOf ℕ) → Type 0

@@ -1,18 +1,17 @@
 // ATTACH and DETACH of the units whose lines have ports in place of a file, and SET of the second teletype.
-ghost use Rattle.std.specs.Prelude.{◌≡◌, ◌↔◌, ◌+◌, ◌≤◌, ◌^◌, Bool, false, List, IsTrue, IsSome, nat_le, IfSome, None, Err};
+ghost use Rattle.std.specs.Prelude.{◌≡◌, ◌+◌, ◌≤◌, ◌^◌, Bool, false, List, IsTrue, IsSome, nat_le, IfSome, None, Err};
 ghost use Rattle.file_traits.specs.Lists.{NamedBytes};
 ghost use Rattle.host_lines.specs.Traffic.{Answer as LineAnswer};
 ghost use Rattle.host_lines.specs.Told.{IsFirst, record_in};
 ghost use Rattle.telnet_lines.specs.Joined.{KeepsParties};
 ghost use Rattle.telnet_lines.specs.Many.{AreApart};
 ghost use Rattle.terminal_ports.specs.Rows.{AreFree};
-ghost use Rattle.unit_trait.specs.declared.kind.Kind.TheVariants.{Qty};
 ghost use Rattle.scp_parser.specs.Command.{AttachPort};
 ghost use Rattle.unit_list.specs.Bus.{kinds_of};
-ghost use Rattle.nova_machine.specs.Machine.{attached_files, has_multiplexer, line_count};
+ghost use Rattle.nova_machine.specs.Machine.{attached_files, line_count};
 ghost use Rattle.nova_machine.specs.Comes.{Output};
 ghost use Rattle.nova_machine.specs.LineChanges.{AreLinesTold};
-ghost use Rattle.command_session.specs.declared.fault.CommandFault.TheVariants.{NoSuchName, OutOfMemory};
+ghost use Rattle.command_session.specs.declared.fault.CommandFault.TheVariants.{OutOfMemory};
 ghost use Rattle.command_session.specs.Live.{live_in, beyond, standing};
 ghost use Rattle.command_session.specs.LineEffects.{first_place, has_row, are_ports, attach_fault, detach_fault, hung};
 ghost use Rattle.command_session.specs.LineEffects.{attach_port_reply, detach_port_reply, disconnect_reply};
@@ -21,6 +20,7 @@ ghost use Rattle.command_session.specs.PortAnswers.{AttachesPort, AttachesRow, T
 ghost use Rattle.command_session.specs.Refusals.{IsUnrefused};
 ghost use Rattle.command_session.specs.Answers.{OfLine, OfPort};
 ghost use Rattle.command_session.specs.Doing.{Does, IsOfPort, IsPlain, IsExitAnswer, IsRefused};
+ghost use Rattle.host_commands.specs.HostEffect.{missing_by};
 
 use command_session::{
     CommandFault, LineRow, Next, Session, TERMINAL, close_row, hang_up, row_for,
@@ -34,7 +34,8 @@ use terminal_ports::listen_up;
 use unit_trait::{Kind, Unit};
 
 /// ATTACH listens on ports for the lines of a unit, where no line has one of them: on one for the second teletype, and
-/// for the multiplexer on 64, from that one on. Ports are numbered from 1 to 65535. It prints nothing.
+/// for the multiplexer on 64, from that one on. Ports are numbered from 1 to 65535. Where it is refused, the lines are as
+/// they were, and the ports before one that is not to be had are given up again. It prints nothing.
 pub fn attach_port<U: Unit, L: Lines>(
     alloc: Global,
     session: &mut Session<U>,
@@ -56,8 +57,7 @@ pub fn attach_port<U: Unit, L: Lines>(
     ensures cause { AttachCause L.tells kind port result (L.state lines.old) (L.state lines.new) }
     ensures line { AttachesPort L.tells kind port result (L.state lines.old) session.old.machine.lines
         (L.state lines.new) session.new.machine.lines }
-    ensures missing { kind ≡ Qty
-        → ((result ≡ Err NoSuchName) ↔ (has_multiplexer session.old.machine.units ≡ false)) }
+    ensures missing { missing_by kind result session.old.machine.units }
     ensures unrefused { result ≡ Err OutOfMemory
         → IsUnrefused (AttachPort kind port) session.old.machine session.old.watch }
     ensures answers { OfPort result }
@@ -91,8 +91,7 @@ pub fn detach_port<U: Unit, L: Lines>(
     ensures unasked { IsRefused result → lines.new ≡ lines.old }
     ensures line { DetachesPort kind result (L.state lines.old) session.old.machine.lines (L.state lines.new)
         session.new.machine.lines }
-    ensures missing { kind ≡ Qty
-        → ((result ≡ Err NoSuchName) ↔ (has_multiplexer session.old.machine.units ≡ false)) }
+    ensures missing { missing_by kind result session.old.machine.units }
     ensures answers { OfLine result }
     ensures own { IsPlain result }
     ensures port { IsOfPort result }

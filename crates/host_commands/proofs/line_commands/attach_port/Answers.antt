@@ -7,7 +7,7 @@ use Rattle.command_session.specs.LineEffects.{row_for, attach_port_reply}
 use Rattle.command_session.specs.PortAnswers.{AttachesRow}
 use Rattle.command_session.specs.Doing.{Does}
 use Rattle.host_commands.proofs.PortCommands.{attach-does, attach-cause, attach-unrefused, attach-names}
-use Rattle.host_commands.proofs.PortFaults.{attach-named}
+use Rattle.host_commands.proofs.PortFaults.{missing-of, attach-named}
 use Rattle.host_commands.proofs.line_commands.attach_port.Goals as goal
 
 pub returns-clause-told : goal.returns-clause-told
@@ -35,9 +35,9 @@ returns-clause-missing g c =
     let m = c.session.inside.machine in
     let named = attach-names g.L.Lines.tells c.row_for.result c.args.port c.attach_row.result (g.L.Lines.state c.args.lines.now) (g.L.Lines.state c.attach_row.new.lines)
     m.lines c.attach_row.new.machine.lines c.attach_row.ensures.told in
-    rw (← c.session.view_is) (λ is.
+    rw (← c.session.view_is) (missing-of c.args.kind c.attach_row.result m.units (λ is.
     let gone = attach-named c.row_for.result c.args.kind m.units m.lines c.row_for.ensures.row c.attach_row.ensures.there is c.args.port in
-    (λ same. gone.0 (named.0 same), λ none. named.1 (gone.1 none)))
+    (λ same. gone.0 (named.0 same), λ none. named.1 (gone.1 none))))
 
 pub returns-clause-unrefused : goal.returns-clause-unrefused
 returns-clause-unrefused g c =

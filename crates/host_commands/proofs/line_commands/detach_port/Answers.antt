@@ -11,7 +11,7 @@ use Rattle.command_session.specs.LinesLeft.{SeenAs}
 use Rattle.command_session.specs.Doing.{Does}
 use Rattle.command_session.proofs.PortLemmas.{left-same}
 use Rattle.host_commands.proofs.PortCommands.{detach-refused-does, detach-does}
-use Rattle.host_commands.proofs.PortFaults.{detach-named}
+use Rattle.host_commands.proofs.PortFaults.{missing-of, detach-named}
 use Rattle.host_commands.proofs.line_commands.detach_port.Goals as goal
 
 pub returns-in-Some-clause-left : goal.returns-in-Some-clause-left
@@ -45,18 +45,18 @@ pub returns-in-Some-clause-missing : goal.returns-in-Some-clause-missing
 returns-in-Some-clause-missing g c =
     let m = c.session.inside.machine in
     let is : Some c.in-Some.fault ≡ detach_fault c.row_for-row.result m.lines = sym c.in-Some.is ∙ c.detach_refusal.ensures.fault in
-    rw (← c.session.view_is) (λ kind.
+    rw (← c.session.view_is) (missing-of c.args.kind (Err c.in-Some.fault) m.units (λ kind.
     let gone = detach-named c.row_for-row.result c.args.kind m.units m.lines c.row_for-row.ensures.row c.detach_refusal.ensures.there kind in (
       λ same. let own : c.in-Some.fault ≡ NoSuchName = cc in gone.0 (sym is ∙ ap Some own),
       λ none. let both = is ∙ gone.1 none in let own : c.in-Some.fault ≡ NoSuchName = cc in ap Err own,
-    ))
+    )))
 
 pub returns-in-None-clause-missing : goal.returns-in-None-clause-missing
 returns-in-None-clause-missing g c =
     let m = c.session.inside.machine in
     let is : None ≡ detach_fault c.row_for-row.result m.lines = sym c.in-None.is ∙ c.detach_refusal.ensures.fault in
-    rw (← c.session.view_is) (λ kind.
+    rw (← c.session.view_is) (missing-of c.args.kind (Ok Go) m.units (λ kind.
     let gone = detach-named c.row_for-row.result c.args.kind m.units m.lines c.row_for-row.ensures.row c.detach_refusal.ensures.there kind in (
       λ same. absurd (cc),
       λ none. absurd (let both = is ∙ gone.1 none in cc),
-    ))
+    )))

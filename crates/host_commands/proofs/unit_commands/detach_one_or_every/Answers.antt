@@ -14,6 +14,8 @@ use Rattle.command_session.proofs.KeptLemmas.{lines-kept, keeps-none, port-no-fi
 use Rattle.command_session.specs.PortAnswers.{DetachesUnit, detaches_by}
 use Rattle.command_session.proofs.PortAnswerLemmas.{stays}
 use Rattle.command_session.proofs.StepLemmas.{step-unchanged}
+use Rattle.host_commands.specs.HostEffect.{MissesUnit}
+use Rattle.host_commands.proofs.PortFaults.{not-missing}
 use Rattle.host_commands.proofs.unit_commands.detach_one_or_every.Goals as goal
 
 pub returns-in-None-clause-told : goal.returns-in-None-clause-told
@@ -124,3 +126,20 @@ returns-in-Some-2-clause-answers g c =
     let other : is_terminal c.in-Some-2.unit ≡ false = ap is_terminal (sym same) ∙ sym c.is_terminal.ensures ∙ c.if-is_terminal.false in
     subst (λ (u : Option UnitName). OfDetach u c.detach.result) (sym c.in-Some-2.is)
     (subst (λ (b : Bool). of_unit b c.in-Some-2.unit c.detach.result) (sym other) c.detach.ensures.answers)
+
+-- ---- a machine without a multiplexer
+
+pub returns-in-None-clause-missing : goal.returns-in-None-clause-missing
+returns-in-None-clause-missing g c =
+    subst (λ (u : Option UnitName). MissesUnit (Detach u) c.detach_every.result c.args.session.now.machine.units) (sym c.in-None.is) tt
+
+pub returns-in-Some-clause-missing : goal.returns-in-Some-clause-missing
+returns-in-Some-clause-missing g c =
+    subst (λ (u : Option UnitName). MissesUnit (Detach u) c.detach_port.result c.args.session.now.machine.units) (sym c.in-Some.is) c.detach_port.ensures.missing
+
+pub returns-in-Some-2-clause-missing : goal.returns-in-Some-2-clause-missing
+returns-in-Some-2-clause-missing g c =
+    let same : c.in-Some.unit ≡ c.in-Some-2.unit = same_Some c.in-Some.unit c.in-Some-2.unit (sym c.in-Some.is ∙ c.in-Some-2.is) in
+    let other : is_terminal c.in-Some-2.unit ≡ false = ap is_terminal (sym same) ∙ sym c.is_terminal.ensures ∙ c.if-is_terminal.false in
+    subst (λ (u : Option UnitName). MissesUnit (Detach u) c.detach.result c.args.session.now.machine.units) (sym c.in-Some-2.is)
+    (not-missing c.in-Some-2.unit c.detach.result c.args.session.now.machine.units other)
