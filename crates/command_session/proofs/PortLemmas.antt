@@ -1,5 +1,5 @@
 -- What commands leave of the ports and the connections of the outside.
-use Rattle.std.proofs.Common.{◌≡◌, ◌≢◌, ◌⊎◌, inl, inr, ◌∙◌, ap, sym, refl, subst, arith, ℕ, ◌+◌, ◌≤◌, ◌==◌, Bool, true, false, true≢false, IsTrue, List, [], ◌∷◌, length, zero, suc, map, slice_get, slice_set, Option, Some, None, IsSome, IfSome, is_some, option_map, if◌then◌else◌, Ok, Err}
+use Rattle.std.proofs.Common.{◌≡◌, ◌≢◌, ◌⊎◌, inl, inr, ◌∙◌, ap, sym, refl, subst, arith, ℕ, ◌+◌, ◌==◌, Bool, true, false, true≢false, IsTrue, List, [], ◌∷◌, length, zero, suc, map, slice_get, slice_set, Option, Some, None, IsSome, IfSome, is_some, option_map, if◌then◌else◌, Ok}
 use Rattle.std.specs.Prelude.{nat_le}
 use Rattle.std.proofs.lemmas.Bool.{and_parts, leb-true}
 use Rattle.std.proofs.lemmas.Option.{same_Some, slice_get-map}

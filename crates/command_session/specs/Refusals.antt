@@ -1,9 +1,8 @@
 -- What a command is refused for before it wants any memory.
-use Rattle.std.specs.Prelude.{◌≡◌, ◌<◌, ◌==◌, ◌&&◌, ℕ, nat_le, Bool, true, false, List, Some, None, option_map, Err, length}
+use Rattle.std.specs.Prelude.{◌≡◌, ◌<◌, ◌==◌, ◌&&◌, ℕ, nat_le, Bool, true, false, List, None, Err, length}
 use Rattle.file_traits.specs.State.{FileState}
 use Rattle.unit_files.specs.Attachments.{attachment_at}
 use Rattle.unit_files.specs.Acts.{refused_first}
-use Rattle.telnet_lines.specs.Line.{LineOf}
 use Rattle.expect_actions.specs.Expects.{most_expects}
 use Rattle.expect_actions.specs.Watch.{WatchState}
 use Rattle.nova_machine.specs.Machine.{MachineState}

@@ -1,5 +1,5 @@
 -- What ATTACH and DETACH of the units with ports come to, and SET of the second teletype.
-use Rattle.std.proofs.Common.{◌≡◌, ◌↔◌, ◌∙◌, ap, sym, refl, subst, ℕ, ◌+◌, Bool, nat_le, List, length, map, slice_get, slice_set, option_map, Option, Some, None, IfSome, is_none, if◌then◌else◌, Result, Ok, Err}
+use Rattle.std.proofs.Common.{◌≡◌, ◌↔◌, ◌∙◌, ap, sym, refl, subst, ℕ, ◌+◌, Bool, true, nat_le, List, length, map, slice_get, slice_set, option_map, Option, Some, None, IfSome, is_none, if◌then◌else◌, Result, Ok, Err}
 use Rattle.std.proofs.lemmas.Bool.{and_parts, leb-true}
 use Rattle.std.proofs.lemmas.Option.{slice_get-map}
 use Rattle.file_traits.specs.Lists.{NamedBytes}
@@ -123,13 +123,13 @@ module _ (watch : WatchState) (keys : List (ℕ × ℕ)) (files : List NamedByte
   -- ---- ATTACH
 
   module _ (old new : LineState) (kind : Kind) (port : ℕ) where
-    row : LineRow
+    abbrev row : LineRow
     row = row_for kind
 
-    live : Live
+    abbrev live : Live
     live = seen (beside watch keys files old) whole m
 
-    left : List (LineOf ℕ) → Live
+    abbrev left : List (LineOf ℕ) → Live
     left after = seen (beside watch keys files new) whole (record m { lines = after })
 
     -- the lines are as they were
@@ -233,12 +233,11 @@ module _ (tells : Bool) (row : LineRow) (port : ℕ) (answer : Answer) (old new 
   -- want of memory comes only where ports are wanted that may be had
   pub attach-unrefused : AttachesRow tells row port answer old before new after → answer ≡ Err OutOfMemory → attach_fault row port before ≡ None
   attach-unrefused attaches want =
-      by (attach_fault row port before) attaches
-      (attach-each row port before (λ (f : CommandFault). Err OutOfMemory ≡ Err f → ⊥) (λ same. absurd (cc)) (λ same. absurd (cc)) (λ same. absurd (cc)) (λ same. absurd (cc)))
+      by (attach_fault row port before) attaches (attach-each row port before (λ (f : CommandFault). IsPlain (Err f)) tt tt tt tt)
     where
-      by : (o : Option CommandFault) → attaches_by o tells row port answer old before new after → IfSome o (λ (f : CommandFault). Err OutOfMemory ≡ Err f → ⊥) → o ≡ None
-      by (Some fault) stays other = absurd (other (sym want ∙ stays.answer_is))
-      by None tried other = refl
+      by : (o : Option CommandFault) → attaches_by o tells row port answer old before new after → IfSome o (λ (f : CommandFault). IsPlain (Err f)) → o ≡ None
+      by (Some fault) stays plain = absurd (subst (λ (a : Answer). IsPlain a) (sym stays.answer_is ∙ want) plain)
+      by None tried plain = refl
 
   -- `No such name` is the answer just where it is the fault
   pub attach-names : AttachesRow tells row port answer old before new after → (answer ≡ Err NoSuchName) ↔ (attach_fault row port before ≡ Some NoSuchName)
@@ -250,9 +249,10 @@ module _ (tells : Bool) (row : LineRow) (port : ℕ) (answer : Answer) (old new 
       listened (Err listen.OutOfMemory) is = absurd (cc)
 
       by : (o : Option CommandFault) → attaches_by o tells row port answer old before new after → (answer ≡ Err NoSuchName) ↔ (o ≡ Some NoSuchName)
-      by (Some fault) stays =
-          (λ is. let both : Err fault ≡ Err NoSuchName = sym stays.answer_is ∙ is in let own : fault ≡ NoSuchName = cc in ap Some own,
-          λ is. let own : fault ≡ NoSuchName = cc in stays.answer_is ∙ ap Err own)
+      by (Some fault) stays = (
+        λ is. let both : Err fault ≡ Err NoSuchName = sym stays.answer_is ∙ is in let own : fault ≡ NoSuchName = cc in ap Some own,
+        λ is. let own : fault ≡ NoSuchName = cc in stays.answer_is ∙ ap Err own,
+      )
       by None tried = (λ is. absurd (listened tried.result (sym tried.answer_is ∙ is)), λ is. absurd (cc))
 
 -- a listening that came to nothing is the cause of two answers

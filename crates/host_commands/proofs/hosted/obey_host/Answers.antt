@@ -153,7 +153,7 @@ returns-in-AttachPort-clause-told g c = λ told step whole first tells printed.
     let text = output printed ports.sent in
     subst (λ (h : Heard). Did (λ own. host_effect own live c.args.command.now) s.command c.attach_port.result (live_in new (beyond state.files ports' whole)) tells
     text (output printed h) (notes_said s.notes) (notes_said new.notes)) (sym c.attach_port.ensures.sent)
-    (plain-did s.command live (live_in new (beyond state.files ports' whole)) c.args.command.now (AttachPort what.kind what.port) (attach_port_reply live what.port) c.attach_port.result tells
+    (plain-did s.command live (live_in new (beyond state.files ports' whole)) c.args.command.now (AttachPort what.kind what.port) (attach_port_reply live what.kind what.port) c.attach_port.result tells
     text text (notes_said s.notes) (notes_said new.notes) is (λ own. refl) (ap (λ (x : CommandState). notes_said x.notes) c.attach_port.ensures.rest)
     (c.attach_port.ensures.told both.0 both.1 whole first state.files tells text))
 
