@@ -33,8 +33,8 @@ use scp_parser::{Command, Verb};
 use std::alloc::Global;
 use unit_trait::Unit;
 
-/// Does a command that works on files and lines of the host: on the files of units, and on the ports of the lines of the
-/// second teletype and of the multiplexer. It prints nothing.
+/// Does a command that works on files and lines of the host: on the files of units, and on the ports of the lines of
+/// the second teletype and of the multiplexer. It prints nothing.
 #[tactic(auto, using(file_commands::proofs::OwnFiles::unused))]
 pub fn obey_host<U: Unit, F: Files, L: Lines>(
     alloc: Global,

@@ -1,6 +1,7 @@
 -- SHOW of lines with ports speaks of no number of a connection.
-use Rattle.std.proofs.Common.{slice_get, ◌≡◌, ◌∙◌, ℕ, ◌+◌, ◌-◌, ◌==◌, nat_le, Bool, true, false, IsTrue, List, [], ◌∷◌, ◌++◌, codes, decimal, option_map, append_assoc, append-nil, Option, Some, None, Result, Err, refl, ap, sym, subst, if◌then◌else◌}
+use Rattle.std.proofs.Common.{slice_get, inl, inr, ◌≡◌, ◌≢◌, ◌∙◌, ℕ, ◌+◌, ◌-◌, ◌==◌, nat_le, Bool, true, false, IsTrue, List, [], ◌∷◌, ◌++◌, codes, decimal, option_map, append_assoc, append-nil, Option, Some, None, Result, Err, refl, ap, sym, subst, if◌then◌else◌}
 use Rattle.std.proofs.lemmas.Option.{slice_get-map}
+use Rattle.std.proofs.lemmas.Bool.Decides.{eqb_tells}
 use Rattle.std.proofs.lemmas.List.{length-map}
 use Rattle.file_traits.specs.Streams.{Puts}
 use Rattle.expect_actions.specs.Watch.{WatchState}
@@ -98,12 +99,10 @@ pub row-text-is : (row : LineRow) (lines : List (LineOf ℕ)) (port many : ℕ) 
     → row_text row lines ≡ codes "QTY" ++ ports_text (Some port) row.count many ++ 10 ∷ []
 row-text-is row lines port many has is = λ i. codes "QTY" ++ ports_text (has i) row.count (is i) ++ 10 ∷ []
 
-ports-put : (first last : List ℕ) (end : List ℕ) → (codes ", listening on ports " ++ first ++ codes " to " ++ last ++ end) ++ 10 ∷ [] ≡ codes ", listening on ports " ++ (first ++ (codes " to " ++ (last ++ (end ++ 10 ∷ []))))
+ports-put : (first last end : List ℕ) → (codes ", listening on ports " ++ first ++ codes " to " ++ last ++ end) ++ 10 ∷ [] ≡ codes ", listening on ports " ++ (first ++ (codes " to " ++ (last ++ (end ++ 10 ∷ []))))
 ports-put first last end =
-    append_assoc (codes ", listening on ports ") (first ++ codes " to " ++ last ++ end) (10 ∷ [])
-    ∙ ap (λ (t : List ℕ). codes ", listening on ports " ++ t)
-    (append_assoc first (codes " to " ++ last ++ end) (10 ∷ [])
-    ∙ ap (λ (t : List ℕ). first ++ t) (append_assoc (codes " to ") (last ++ end) (10 ∷ []) ∙ ap (λ (t : List ℕ). codes " to " ++ t) (append_assoc last end (10 ∷ []))))
+    ap (λ (t : List ℕ). codes ", listening on ports " ++ t)
+    (append_assoc ((first ++ codes " to ") ++ last) end (10 ∷ []) ∙ append_assoc (first ++ codes " to ") last (end ++ 10 ∷ []) ∙ append_assoc first (codes " to ") (last ++ (end ++ 10 ∷ [])))
 
 pub free-put : (port count last many : ℕ) → last ≡ port + (count - 1) → many ≡ 0
     → codes "QTY" ++ ports_text (Some port) count many ++ 10 ∷ [] ≡ codes "QTY, listening on ports " ++ (decimal port ++ (codes " to " ++ (decimal last ++ 10 ∷ [])))
@@ -112,13 +111,15 @@ free-put port count last many ends none =
     ∙ ap (λ (n : ℕ). codes "QTY" ++ (codes ", listening on ports " ++ decimal port ++ codes " to " ++ decimal n ++ []) ++ 10 ∷ []) (sym ends)
     ∙ ap (λ (t : List ℕ). codes "QTY" ++ t) (ports-put (decimal port) (decimal last) [])
 
-pub connected-put : (port count last many : ℕ) → last ≡ port + (count - 1) → (many == 0) ≡ false
+some-there : (many : ℕ) → many ≢ 0 → (many == 0) ≡ false
+some-there many some = elim (eqb_tells many 0) [ inl e ↦ absurd (some e.1) | inr e ↦ e.0 ]
+
+pub connected-put : (port count last many : ℕ) → last ≡ port + (count - 1) → many ≢ 0
     → codes "QTY" ++ ports_text (Some port) count many ++ 10 ∷ []
     ≡ codes "QTY, listening on ports " ++ (decimal port ++ (codes " to " ++ (decimal last ++ (codes ", " ++ (decimal many ++ codes " connected\n")))))
 connected-put port count last many ends some =
     ap (λ (b : Bool). codes "QTY" ++ (codes ", listening on ports " ++ decimal port ++ codes " to " ++ decimal (port + (count - 1)) ++ (if b then [] else codes ", " ++ decimal many ++ codes " connected")) ++ 10 ∷ [])
-    some
+    (some-there many some)
     ∙ ap (λ (n : ℕ). codes "QTY" ++ (codes ", listening on ports " ++ decimal port ++ codes " to " ++ decimal n ++ (codes ", " ++ decimal many ++ codes " connected")) ++ 10 ∷ []) (sym ends)
     ∙ ap (λ (t : List ℕ). codes "QTY" ++ t) (ports-put (decimal port) (decimal last) (codes ", " ++ decimal many ++ codes " connected"))
-    ∙ ap (λ (t : List ℕ). codes "QTY, listening on ports " ++ (decimal port ++ (codes " to " ++ (decimal last ++ t))))
-    (append_assoc (codes ", ") (decimal many ++ codes " connected") (10 ∷ []) ∙ ap (λ (t : List ℕ). codes ", " ++ t) (append_assoc (decimal many) (codes " connected") (10 ∷ [])))
+    ∙ ap (λ (t : List ℕ). codes "QTY, listening on ports " ++ (decimal port ++ (codes " to " ++ (decimal last ++ (codes ", " ++ t))))) (append_assoc (decimal many) (codes " connected") (10 ∷ []))

@@ -1,5 +1,5 @@
 // SHOW of the units whose lines have ports in place of a file: the second teletype and the multiplexer.
-ghost use Rattle.std.specs.Prelude.{◌≡◌, ◌≤◌, ◌++◌, ◌∷◌, ℕ, List, [], Some, IsTrue, codes, decimal};
+ghost use Rattle.std.specs.Prelude.{◌≡◌, ◌+◌, ◌≤◌, ◌++◌, ◌∷◌, ℕ, List, [], Some, IsTrue, codes, decimal};
 ghost use Rattle.fault_counts.specs.Faults.{CountsFault};
 ghost use Rattle.file_traits.specs.Streams.{Puts};
 ghost use Rattle.expect_actions.specs.Watch.{WatchState};
@@ -152,12 +152,21 @@ fn put_row<U: Unit, S: Sink>(
     ensures counts { CountsFault (S.fault_count out.old) (S.fault_count out.new) result }
 {
     match first_port(machine, row.number, row.count) {
-        None => put_all(out, b"QTY, not attached\n"),
+        None => put_no_row(out),
         Some(first) => {
             let connected = connected_in(machine, row.number, row.count);
             put_ports(first, row.count, connected, out)
         }
     }
+}
+
+// Prints that the multiplexer has no ports.
+fn put_no_row<S: Sink>(out: &mut S) -> Result<(), Failed>
+    ensures told { IsTrue S.tells
+        → Puts (S.written out.old) (codes "QTY, not attached" ++ 10 ∷ []) result (S.written out.new) }
+    ensures counts { CountsFault (S.fault_count out.old) (S.fault_count out.new) result }
+{
+    put_all(out, b"QTY, not attached\n")
 }
 
 // Prints so many ports in a row, and to how many lines somebody is connected.
