@@ -19,8 +19,8 @@ use Rattle.saved_session.specs.Valid.{ArePorts}
 use Rattle.state_transfer.specs.Ports.{how_many, is_line, multiplexer_lines, assigned}
 use Rattle.state_transfer.specs.PutBack.{lines_from}
 use Rattle.state_laws.proofs.LinesBack.{row-behind, how-many, free_lines}
-use Rattle.command_session.proofs.PortLemmas.{apart-free}
-use Rattle.command_session.specs.LineEffects.{row_for, every_row, has_row, ported, closed, closed_by, unported}
+use Rattle.command_session.proofs.PortLemmas.{closed-free, apart-free}
+use Rattle.command_session.specs.LineEffects.{row_for, every_row, has_row, ported, closed, unported}
 use Rattle.state_commands.proofs.PortRows.{all-given}
 
 -- ---- lines with the same ports
@@ -204,10 +204,6 @@ changes-past (suc count) place change lines =
     changes-past count (suc place) change (changed_at (suc (suc place)) change lines)
     ∙ ap (λ (l : List (LineOf Peer)). changed_row count (suc place) change l) (drop-two place change lines)
 
-closed-port : (port : Option ℕ) (line : LineOf Peer) → line.port ≡ port → (closed_by port line).port ≡ None
-closed-port None line is = is
-closed-port (Some port) line is = refl
-
 none-changed : (count place : ℕ) (change : LineOf Peer → LineOf Peer) → changed_row count place change [] ≡ []
 unfolding changed_row
 none-changed zero place change = refl
@@ -219,7 +215,7 @@ all-closed count [] few = subst (λ (l : List (LineOf Peer)). HavePortsFrom None
 all-closed zero (line ∷ lines) few = absurd (omega (arith, few))
 all-closed (suc count) (line ∷ lines) few =
     subst (λ (l : List (LineOf Peer)). HavePortsFrom None l) (sym (changes-behind count 0 closed (closed line) lines))
-    (closed-port line.port line refl, all-closed count lines (omega (arith, few)))
+    (closed-free line.port line refl, all-closed count lines (omega (arith, few)))
 
 pub numbered-unported : (kind : Kind) (units : List UnitState) (lines : List (LineOf Peer)) → length lines ≡ suc (line_count units) → AreNumbered (drop (line_place 1) lines)
     → AreNumbered (drop (line_place 1) (unported (row_for kind) lines))
