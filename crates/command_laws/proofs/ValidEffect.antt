@@ -1,5 +1,5 @@
 -- Every command keeps what every state is, and what the disk holds of its file.
-use Rattle.std.proofs.Common.{◌≡◌, ◌≢◌, inl, inr, ℕ, zero, suc, ◌+◌, ◌^◌, ◌<◌, ◌≤◌, ◌==◌, ◌&&◌, not, nat_le, nat_lt, min, unwrap_or, Bool, true, false, List, [], ◌∷◌, length, drop, get_or, map, Option, Some, None, option_map, Result, Ok, Err, if◌then◌else◌, refl, sym, ap, subst, ◌∙◌, arith, is_none, is_some}
+use Rattle.std.proofs.Common.{◌≡◌, ◌≢◌, inl, inr, ℕ, zero, suc, ◌+◌, ◌^◌, ◌<◌, ◌≤◌, ◌==◌, ◌&&◌, not, nat_le, nat_lt, min, unwrap_or, Bool, true, false, List, [], ◌∷◌, length, drop, get_or, map, Option, Some, None, option_map, Result, Ok, Err, if◌then◌else◌, refl, sym, ap, subst, ◌∙◌, arith, is_none}
 use Rattle.std.proofs.lemmas.Bool.{and_parts, leb-true, ltb-true}
 use Rattle.std.proofs.lemmas.List.{length-map, length-replicate}
 use Rattle.observations.specs.Observations.{Prints, map_made}
@@ -63,7 +63,7 @@ use Rattle.nova_machine.specs.Comes.{Output}
 use Rattle.command_session.specs.declared.next.Next.{Next}
 use Rattle.command_session.specs.declared.next.Next.TheVariants.{Go, Exit}
 use Rattle.command_session.specs.declared.fault.CommandFault.{CommandFault}
-use Rattle.command_session.specs.declared.fault.CommandFault.TheVariants.{Console, OutOfMemory, NoSuchName, AlreadyAttached, OutOfRange, PortTaken, FileFailed}
+use Rattle.command_session.specs.declared.fault.CommandFault.TheVariants.{Console, OutOfMemory, NoSuchName, FileFailed}
 use Rattle.command_session.specs.Live.{Live, Standing, standing, with_machine, numberless, with_attached}
 use Rattle.command_session.specs.Reply.{Answer, Reply, goes, says, refused}
 use Rattle.command_session.specs.RunEffects.{stop_line, run_answer, used_by, run_failure, ran, address_fits, started, run_from, stepped, step_of, reset_reply, last_address}
@@ -74,7 +74,7 @@ use Rattle.command_session.specs.FileEffects.{filed_in, emptied_all, left_by, un
 use Rattle.host_lines.specs.Traffic.{Answer as LineAnswer, Peer, Replied, Ahead, Failed}
 use Rattle.telnet_lines.specs.Line.{LineOf, unconnected}
 use Rattle.command_session.specs.declared.terminal.LineRow.{LineRow}
-use Rattle.command_session.specs.LineEffects.{is_terminal, row_for, every_row, first_place, has_row, row_port, are_ports, terminal_place, terminal_line, ported, unported, hung, hung_up, unless_refused, attach_fault, listen_answer, listen_lines, listen_with, attach_port_reply}
+use Rattle.command_session.specs.LineEffects.{is_terminal, row_for, every_row, first_place, has_row, are_ports, terminal_place, terminal_line, ported, unported, hung, hung_up, unless_refused, attach_fault, listen_answer, listen_lines, listen_with, attach_port_reply}
 use Rattle.command_session.proofs.PortLemmas.{apart-unported, apart-hung, apart-ported}
 use Rattle.terminal_ports.specs.Ports.{HavePortsApart, AreNumbered}
 use Rattle.terminal_ports.specs.Rows.{row_from, are_taken}
@@ -101,6 +101,7 @@ use Rattle.command_session.specs.Doing.{Does}
 use Rattle.command_session.specs.Remains.{flushed_machine, flushed, Remains}
 use Rattle.command_laws.specs.Valid.{IsProgramMachine, ValidLive, GivesBytes, CopyStays, IsValidReply, CommandsKeepStates}
 use Rattle.host_commands.proofs.FileKinds.{positioned-kinds}
+use Rattle.host_commands.proofs.PortFaults.{attach-asks}
 use Rattle.command_session.proofs.SeenLemmas.{attached-with}
 use Rattle.command_session.proofs.CloseLemmas.{none-other}
 use Rattle.command_laws.proofs.ValidWatch.{quoted-bytes, break-added, break-removed, breaks-removed, expect-added, expects-removed, sends-added, sends-removed}
@@ -472,21 +473,6 @@ unfolding detach_reply
 stands-detach notes live unit drive is =
     stands-if (lacks_unit live.machine unit) live _ _ (λ _. stands-refused _ live is)
     (λ _. stands-detach_with (failure_now live.machine.time (subject.Unit unit) notes) unit live drive is)
-
--- what an ATTACH of ports asks of the lines, where it is not refused
-attach-asks : (row : LineRow) (port : ℕ) (lines : List (LineOf Peer)) → attach_fault row port lines ≡ None
-    → (has_row row lines ≡ true) × (are_ports port row.count ≡ true) × (are_taken row.count port lines ≡ false)
-unfolding attach_fault
-attach-asks row port lines none = by (has_row row lines) (is_some (row_port row lines)) (are_ports port row.count) (are_taken row.count port lines) none
-  where
-    by : (there has range taken : Bool)
-        → (if not there then Some NoSuchName else if has then Some AlreadyAttached else if not range then Some OutOfRange else if taken then Some PortTaken else None) ≡ None
-        → (there ≡ true) × (range ≡ true) × (taken ≡ false)
-    by false has range taken none = absurd (cc)
-    by true true range taken none = absurd (cc)
-    by true false false taken none = absurd (cc)
-    by true false true true none = absurd (cc)
-    by true false true false none = (refl, refl, refl)
 
 -- there are the lines that belong to the units
 lines-count : (live : Live) → ValidLive live → length live.lines ≡ suc (line_count live.machine.units)
