@@ -65,9 +65,10 @@ class Nova:
         if is_restored:
             state = state_files.State(4, has_multiplexer=True)
             state.qty = self.first
+            state.units["QTY"]["TIME"] = 1000
             with open(os.path.join(folder, "ports"), "wb") as file:
                 file.write(state.bytes())
-            lines = ["RESTORE ports", *lines]
+            lines = ["RESTORE ports", *(it for it in lines if not it.startswith("D QTY "))]
         else:
             lines += [f"ATTACH QTY {self.first}"]
         self.process = subprocess.Popen([os.path.realpath(program), "-q", "-l", str(LIMIT)], cwd=folder, stdin=subprocess.PIPE,

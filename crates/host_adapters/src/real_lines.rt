@@ -457,14 +457,15 @@ impl<'a, N: Net> Lines for RealLines<'a, N> {
 
     ghost peers_stand = { λ tells l. tt };
 
-    /// Listens on a port, and takes the memory for one more connection, and at the first one for what the system tells
-    /// of them. It fails where the port is in use.
+    /// Listens on a port, and takes the memory for a connection of each port, and at the first one for what the system
+    /// tells of them. It fails where the port is in use.
     fn listen(&mut self, alloc: Global, port: u16) -> Result<(), ListenFault> {
         match self.ports.reserve(1) {
             Err(OutOfMemory) => return Err(ListenFault::OutOfMemory),
             Ok(()) => (),
         }
-        match self.connections.reserve(1) {
+        // `reserve` counts from the connections that stand, and not from the room that was taken before.
+        match self.connections.reserve(self.ports.len().saturating_add(1)) {
             Err(OutOfMemory) => return Err(ListenFault::OutOfMemory),
             Ok(()) => (),
         }

@@ -1,7 +1,7 @@
 // From the runtime to a session, one thing after another: its words, its units, its streams, its files and its lines.
 ghost use Rattle.std.specs.Prelude.{◌≡◌, ◌⊎◌, None, IfOk, map};
 ghost use Rattle.std.specs.Process.{exit_status};
-ghost use Rattle.command_words.specs.Standard.{IsStandard, standard_units};
+ghost use Rattle.command_words.specs.Standard.{IsStandard, standard_units as ten_units};
 ghost use Rattle.command_words.specs.Words.{options_of, texts_of};
 
 use crate::program::Program;
@@ -100,7 +100,7 @@ fn with_terminals<P: Program, R: Input + Print + AllocGlobal + System + Net>(
 ) -> Result<ExitCode, OutOfMemory>
 where
     R::File: FileExt,
-    requires { map ⟦<Box<dyn Unit> as Unit>⟧.unit_state units.items ≡ standard_units }
+    requires { map ⟦<Box<dyn Unit> as Unit>⟧.unit_state units.items ≡ ten_units }
     ensures usage { IfOk result (λ code. exit_status code ≡ 100 → options_of (texts_of words.now) ≡ None) }
     ensures bad_words { options_of (texts_of words.now) ≡ None
         → IfOk result (λ code. (exit_status code ≡ 100) ⊎ (exit_status code ≡ 102)) }

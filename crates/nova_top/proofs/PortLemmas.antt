@@ -69,7 +69,7 @@ lines-by-kinds us vs same =
     let other = length-replicate {A = LineOf ℕ} (line_count vs) (unconnected None) in
     let many = same-many us vs same in
     let count : line_count us ≡ line_count vs = omega (arith, one, other, many) in
-    ap (λ (n : ℕ). unconnected None ∷ replicate n (unconnected None)) count
+    ap (λ (n : ℕ). unconnected {P = ℕ} None ∷ replicate {A = LineOf ℕ} n (unconnected None)) count
 
 pub lines-of-kinds : (us vs : List UnitState) (machine : Option MachineState) (old new : LineState) → kinds_of us ≡ kinds_of vs → LinesAtEnd us machine old new → LinesAtEnd vs machine old new
 lines-of-kinds us vs None old new same none = none

@@ -155,9 +155,9 @@ begun-files Told units words options i s m keys o notes spare old new made same 
 -- ---- a session from where it begins
 
 -- nobody is behind a line of a new machine, which has no port
-nobody-seen : (s : LineState) (n : ℕ) → map (seen_line s) (replicate n (unconnected None)) ≡ map (renamed (λ _. Gone)) (replicate n (unconnected None))
+nobody-seen : (s : LineState) (n : ℕ) → map (seen_line s) (replicate {A = LineOf ℕ} n (unconnected None)) ≡ map (renamed (λ _. Gone)) (replicate {A = LineOf ℕ} n (unconnected None))
 nobody-seen s zero = refl
-nobody-seen s (suc n) = ap (λ (l : List (LineOf Peer)). renamed (λ _. Gone) (unconnected None) ∷ l) (nobody-seen s n)
+nobody-seen s (suc n) = ap (λ (l : List (LineOf Peer)). unconnected None ∷ l) (nobody-seen s n)
 
 first-lines : (workload : Option ℕ) (units : List UnitState) (s : LineState) → map (seen_line s) (with_workload workload (new_machine units)).lines ≡ map (renamed (λ _. Gone)) (with_workload workload (new_machine units)).lines
 unfolding new_machine reset_machine reset_devices

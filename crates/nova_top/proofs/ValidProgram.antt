@@ -282,7 +282,7 @@ record IsFresh (m : MachineState) : Type 0 where
 
 -- lines without a port, behind which nobody is
 abbrev free_lines : ℕ → List (LineOf Peer)
-free_lines n = map (renamed (λ _. Gone)) (replicate n (unconnected None))
+free_lines n = map (renamed {P = ℕ} (λ _. Gone)) (replicate {A = LineOf ℕ} n (unconnected None))
 
 free-valid : (n : ℕ) → AllByRecursion ValidLine (free_lines n)
 free-valid zero = tt

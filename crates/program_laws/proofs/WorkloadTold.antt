@@ -185,7 +185,7 @@ no-files-free zero = tt
 no-files-free (suc count) = (refl, no-files-free count)
 
 -- no line of a new machine has a port
-no-ports : (n : ℕ) → AllByRecursion (λ (port : Option ℕ). port ≡ None) (map (λ (line : LineOf Peer). line.port) (map (renamed (λ _. Gone)) (replicate n (unconnected None))))
+no-ports : (n : ℕ) → AllByRecursion (λ (port : Option ℕ). port ≡ None) (map (λ (line : LineOf Peer). line.port) (map (renamed {P = ℕ} {Q = Peer} (λ _. Gone)) (replicate {A = LineOf ℕ} n (unconnected None))))
 no-ports zero = tt
 no-ports (suc n) = (refl, no-ports n)
 

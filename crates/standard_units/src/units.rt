@@ -5,7 +5,7 @@ ghost use Rattle.unit_trait.specs.declared.kind.Kind.TheVariants.{Tto as telepri
 ghost use Rattle.unit_trait.specs.declared.kind.Kind.TheVariants.{Tti1 as second_keyboards, Tto1 as second_printers};
 ghost use Rattle.unit_trait.specs.declared.kind.Kind.TheVariants.{Qty as multiplexers};
 ghost use Rattle.unit_trait.specs.Row.{initial_unit};
-ghost use Rattle.command_words.specs.Standard.{standard_units, all_units};
+ghost use Rattle.command_words.specs.Standard.{standard_units as ten_units, all_units as eleven_units};
 
 use crate::boxes::{four, push_four, push_two, two};
 use clock_unit::Clk;
@@ -97,7 +97,7 @@ pub fn in_bus_order<U: Unit>(
     requires teleprinter { U.unit_state teleprinter ≡ initial_unit teleprinters }
     requires keyboard_1 { U.unit_state keyboard_1 ≡ initial_unit second_keyboards }
     requires teleprinter_1 { U.unit_state teleprinter_1 ≡ initial_unit second_printers }
-    ensures { IfOk result (λ units. map U.unit_state units.items ≡ standard_units) }
+    ensures { IfOk result (λ units. map U.unit_state units.items ≡ ten_units) }
 {
     let mut units = Vec::new(alloc);
     push_four(&mut units, disk, tape, printer, reader)?;
@@ -115,9 +115,9 @@ pub fn boxed_multiplexer(alloc: Global) -> Result<Box<Qty>, OutOfMemory>
 
 /// These units, which are the standard ones without the multiplexer, and a multiplexer behind them.
 pub fn with_multiplexer<U: Unit>(units: Vec<U>, multiplexer: U) -> Result<Vec<U>, OutOfMemory>
-    requires units { map U.unit_state units.items ≡ standard_units }
+    requires units { map U.unit_state units.items ≡ ten_units }
     requires multiplexer { U.unit_state multiplexer ≡ initial_unit multiplexers }
-    ensures { IfOk result (λ units. map U.unit_state units.items ≡ all_units) }
+    ensures { IfOk result (λ units. map U.unit_state units.items ≡ eleven_units) }
 {
     let mut units = units;
     units.push(multiplexer)?;

@@ -421,3 +421,47 @@ fn a_full_socket_takes_again(rt: HostRuntime) {
     let found = is_sent_again(&rt, rt.alloc(), &mut lines);
     is_so(&rt, found, "a full socket that was read");
 }
+
+/// A caller of each port of a row.
+fn call_all<N: Net>(net: &N, alloc: Global, first: u16) -> Result<Vec<TcpStream>, &'static str> {
+    let mut peers = Vec::new(alloc);
+    for port in first..first.saturating_add(ROW) {
+        let peer = connected(net, port)?;
+        if peers.push(peer).is_err() {
+            return Err("no memory for callers");
+        }
+    }
+    Ok(peers)
+}
+
+/// How many callers of a row are let in within a while.
+fn let_in<N: Net>(lines: &mut RealLines<'_, N>, first: u16) -> usize {
+    let mut count = 0usize;
+    for now in 0..10_000u64 {
+        for port in first..first.saturating_add(ROW) {
+            if let Ok(Some(_)) = lines.accept(port, now) {
+                count = count.saturating_add(1);
+            }
+        }
+    }
+    count
+}
+
+fn all_are_let_in<N: Net>(
+    net: &N,
+    alloc: Global,
+    lines: &mut RealLines<'_, N>,
+) -> Result<bool, &'static str> {
+    let first = free_row(alloc, lines)?;
+    let peers = call_all(net, alloc, first)?;
+    let count = let_in(lines, first);
+    Ok(count == peers.len() && lines.faults() == 0)
+}
+
+// There is room for a connection of each port.
+#[test]
+fn callers_of_all_64_ports_are_let_in(rt: HostRuntime) {
+    let mut lines = RealLines::new(rt.alloc(), &rt);
+    let found = all_are_let_in(&rt, rt.alloc(), &mut lines);
+    is_so(&rt, found, "64 callers");
+}
