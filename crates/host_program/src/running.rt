@@ -1,6 +1,8 @@
 // From the runtime to a session, one thing after another: its words, its units, its streams, its files and its lines.
 ghost use Rattle.std.specs.Prelude.{◌≡◌, ◌⊎◌, None, IfOk, map};
 ghost use Rattle.std.specs.Process.{exit_status};
+ghost use Rattle.unit_trait.specs.declared.kind.Kind.TheVariants.{Qty as multiplexers};
+ghost use Rattle.unit_trait.specs.Row.{initial_unit};
 ghost use Rattle.command_words.specs.Standard.{IsStandard, standard_units as ten_units};
 ghost use Rattle.command_words.specs.Words.{options_of, texts_of};
 
@@ -87,25 +89,27 @@ where
         keyboard_1,
         teleprinter_1,
     )?;
-    with_terminals(program, rt, words, units)
+    let multiplexer: Box<dyn Unit> = boxed_multiplexer(rt.alloc())?;
+    with_terminals(program, rt, words, units, multiplexer)
 }
 
-/// Runs a session with these units, which are the standard ones without the multiplexer, and a new multiplexer behind
+/// Runs a session with these units, which are the standard ones without the multiplexer, and a multiplexer behind
 /// them.
-fn with_terminals<P: Program, R: Input + Print + AllocGlobal + System + Net>(
+fn with_terminals<P: Program, U: Unit, R: Input + Print + AllocGlobal + System + Net>(
     program: &P,
     rt: &R,
     words: &[String],
-    units: Vec<Box<dyn Unit>>,
+    units: Vec<U>,
+    multiplexer: U,
 ) -> Result<ExitCode, OutOfMemory>
 where
     R::File: FileExt,
-    requires { map ⟦<Box<dyn Unit> as Unit>⟧.unit_state units.items ≡ ten_units }
+    requires units { map U.unit_state units.items ≡ ten_units }
+    requires multiplexer { U.unit_state multiplexer ≡ initial_unit multiplexers }
     ensures usage { IfOk result (λ code. exit_status code ≡ 100 → options_of (texts_of words.now) ≡ None) }
     ensures bad_words { options_of (texts_of words.now) ≡ None
         → IfOk result (λ code. (exit_status code ≡ 100) ⊎ (exit_status code ≡ 102)) }
 {
-    let multiplexer: Box<dyn Unit> = boxed_multiplexer(rt.alloc())?;
     let units = with_multiplexer(units, multiplexer)?;
     with_streams(program, rt, words, units)
 }
