@@ -2,7 +2,7 @@
 use Rattle.std.proofs.Common.{◌≡◌, ℕ, zero, suc, ◌+◌, ◌^◌, ◌≤◌, nat_le, Bool, true, false, List, [], ◌∷◌, length, Option, Some, None, IfSome, refl, arith, if◌then◌else◌}
 use Rattle.std.specs.List.{AllByRecursion}
 use Rattle.std.proofs.lemmas.Bool.{and_parts, leb-true}
-use Rattle.host_lines.specs.Traffic.{Answer as LineAnswer, Peer, Ahead, Script, Answers, Failed, replied, begun, listening}
+use Rattle.host_lines.specs.Traffic.{Answer as LineAnswer, Peer, Ahead, Script, Answers, Quiet, Failed, replied, begun, listening}
 use Rattle.telnet_lines.specs.Line.{LineOf, unconnected}
 use Rattle.terminal_ports.specs.Ports.{changed_at}
 use Rattle.terminal_ports.specs.Rows.{changed_row, row_from, with_ports}

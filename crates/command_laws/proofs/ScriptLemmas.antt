@@ -2,7 +2,9 @@
 use Rattle.std.proofs.Common.{ℕ, Bool, true, false, List, drop, Option, Some, None, Result, Ok, Err, if◌then◌else◌, nat_le, ◌&&◌, ◌^◌, min, unwrap_or, is_none}
 use Rattle.file_commands.specs.declared.note.Subject.TheVariants as subject
 use Rattle.file_commands.specs.Notes.{CommandNote, failure_now}
+use Rattle.unit_trait.specs.declared.kind.Kind.{Kind}
 use Rattle.unit_trait.specs.declared.kind.UnitName.{UnitName}
+use Rattle.terminal_ports.specs.Listening.{rising, listening_each}
 use Rattle.host_lines.specs.Traffic.{Answer as LineAnswer, Failed, Peer, Replied}
 use Rattle.telnet_lines.specs.Line.{LineOf}
 use Rattle.unit_files.specs.Acts.{AttachSaid, Attached, UnitHasFile, OnlyWrites, NotThere, TooLong, CallFailed}
@@ -20,6 +22,7 @@ use Rattle.saved_files.specs.Putting.{FileRefusal, first_refused}
 use Rattle.saved_files.specs.Taking.{first_unsaved}
 use Rattle.state_transfer.specs.Session.{saved}
 use Rattle.state_text.specs.Text.{text}
+use Rattle.command_session.specs.declared.fault.CommandFault.{CommandFault}
 use Rattle.command_session.specs.declared.next.Next.{Next}
 use Rattle.command_session.specs.declared.next.Next.TheVariants.{Go, Do, Exit}
 use Rattle.command_session.specs.Live.{Live}

@@ -74,7 +74,7 @@ use Rattle.command_session.specs.FileEffects.{filed_in, emptied_all, left_by, un
 use Rattle.host_lines.specs.Traffic.{Answer as LineAnswer, Peer, Replied, Ahead, Failed}
 use Rattle.telnet_lines.specs.Line.{LineOf, unconnected}
 use Rattle.command_session.specs.declared.terminal.LineRow.{LineRow}
-use Rattle.command_session.specs.LineEffects.{is_terminal, row_for, every_row, first_place, has_row, are_ports, terminal_place, terminal_line, ported, unported, hung, hung_up, unless_refused, attach_fault, listen_answer, listen_lines, listen_with, attach_port_reply}
+use Rattle.command_session.specs.LineEffects.{is_terminal, row_for, every_row, first_place as row_place, has_row, are_ports, terminal_place, terminal_line, ported, unported, hung, hung_up, unless_refused, attach_fault, listen_answer, listen_lines, listen_with, attach_port_reply}
 use Rattle.command_session.proofs.PortLemmas.{apart-unported, apart-hung, apart-ported}
 use Rattle.terminal_ports.specs.Ports.{HavePortsApart, AreNumbered}
 use Rattle.terminal_ports.specs.Rows.{row_from, are_taken}
@@ -502,7 +502,7 @@ stands-listen_with said kind port live none valid is = by said.answer
     by other = record {
       valid = record {
         after = lined-live (record live { ahead = said.ahead }) (ported row port live.lines) (ahead-live live said.ahead is valid)
-            (valid-ported row port live.lines asks.1 is.valid.lines) (given-length (row_from row.count (first_place row) port) live.lines)
+            (valid-ported row port live.lines asks.1 is.valid.lines) (given-length (row_from row.count (row_place row) port) live.lines)
             (apart-ported row port live.lines asks.0 asks.1 asks.2 is.ports)
             (numbered-ported kind port live.machine.units live.lines (lines-count live is) asks.0 is.numbered);
         made = λ at h. absurd h;
