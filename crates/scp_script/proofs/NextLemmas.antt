@@ -1,5 +1,5 @@
 -- What a command has next: a script only where it is a DO, and an exit only where it is EXIT.
-use Rattle.std.proofs.Common.{◌≡◌, ℕ, ◌+◌, ◌<◌, ◌==◌, Bool, not, true, false, List, length, refl, sym, subst, Option, Some, None, Result, Ok, Err, if◌then◌else◌, nat_le, nat_lt, ◌&&◌}
+use Rattle.std.proofs.Common.{◌≡◌, ℕ, ◌+◌, ◌<◌, ◌==◌, Bool, not, is_none, true, false, List, length, refl, sym, subst, Option, Some, None, Result, Ok, Err, if◌then◌else◌, nat_le, nat_lt, ◌&&◌}
 use Rattle.file_commands.specs.declared.note.Subject.TheVariants as subject
 use Rattle.file_commands.specs.Notes.{CommandNote, failure_now}
 use Rattle.unit_trait.specs.declared.kind.Kind.{Kind}
@@ -24,14 +24,14 @@ use Rattle.scp_examine.specs.Effect.{examine_fault, fault_of_deposit, tested}
 use Rattle.command_session.specs.declared.do_file.DoFile.{DoFile}
 use Rattle.command_session.specs.declared.next.Next.{Next}
 use Rattle.command_session.specs.declared.next.Next.TheVariants.{Go, Ran, Do, Goto, Exit}
-use Rattle.command_session.specs.declared.fault.CommandFault.TheVariants.{NoSuchName, NoFile}
+use Rattle.command_session.specs.declared.fault.CommandFault.TheVariants.{NoSuchName, NotAttached, NoFile}
 use Rattle.command_session.specs.Live.{Live}
-use Rattle.command_session.specs.Reply.{Answer, Reply, bare_answer}
+use Rattle.command_session.specs.Reply.{Answer, Reply, goes, bare_answer}
 use Rattle.command_session.specs.Nature.{IsUntold}
 use Rattle.command_session.specs.Answers.{CanAnswer, of_unit}
 use Rattle.command_session.specs.RunEffects.{reset_reply}
 use Rattle.plain_commands.specs.ListEffects.{lacks_device, examine_after, examine_reply, handed, deposit_after, deposit_reply}
-use Rattle.command_session.specs.LineEffects.{is_terminal, row_for, has_row, terminal_line, unless_refused, detach_fault, detach_port_reply, show_line, show_ports}
+use Rattle.command_session.specs.LineEffects.{is_terminal, row_for, has_row, row_port, unported, terminal_line, unless_refused, detach_fault, detach_port_reply, show_line, show_ports}
 use Rattle.command_session.specs.FileEffects.{lacks_unit, detach_one_or_all}
 use Rattle.command_session.specs.FileEffects.{detach_answer, detach_reply}
 use Rattle.expect_actions.specs.Expects.{most_expects}
@@ -94,13 +94,15 @@ unfolding detach_reply
 detach-none notes live unit =
     none-if (lacks_unit live.machine unit) _ _ tt (detach_answer-none unit (detach_said (failure_now live.machine.time (subject.Unit unit) notes) unit (attached_in live.machine) live.machine.disk))
 
-unless-plain : (fault : Option CommandFault) (reply : Reply) (live : Live) → IsPlain reply.answer → IsPlain (unless_refused fault reply live).answer
-unless-plain None reply live none = none
-unless-plain (Some fault) reply live none = tt
-
 detach_port-none : (live : Live) (kind : Kind) → IsPlain (detach_port_reply live kind).answer
-unfolding detach_port_reply
-detach_port-none live kind = unless-plain (detach_fault (row_for kind) live.lines) _ live tt
+unfolding detach_port_reply detach_fault
+detach_port-none live kind = by (not (has_row (row_for kind) live.lines)) (is_none (row_port (row_for kind) live.lines))
+  where
+    by : (lacks free : Bool)
+        → IsPlain (unless_refused (if lacks then Some NoSuchName else if free then Some NotAttached else None) (goes (record live { lines = unported (row_for kind) live.lines })) live).answer
+    by true free = tt
+    by false true = tt
+    by false false = tt
 
 show_line-none : (line : Option (LineOf Peer)) (live : Live) → IsPlain (show_line line live).answer
 show_line-none None live = tt
