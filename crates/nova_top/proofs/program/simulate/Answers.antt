@@ -126,7 +126,7 @@ starts-with g c told =
 opens-with : (g : Over) (c : goal.After-run_session-arg-in-Ok-begin-2-1 g) → OpensAs (texts_of c.args.words.now) c.in-Some.options c.open_with-opening.result
 opens-with g c =
     let opening = c.open_with-opening.ensures in
-    opens (map g.U.Unit.unit_state c.args.units.items) (texts_of c.args.words.now) c.in-Some.options c.in-Ok-begin.field-0.script c.in-Ok-begin.field-0.arguments c.open_with-opening.result opening.script opening.arguments opening.reads opening.prompt opening.budget
+    opens (texts_of c.args.words.now) c.in-Some.options c.in-Ok-begin.field-0.script c.in-Ok-begin.field-0.arguments c.open_with-opening.result opening.script opening.arguments opening.reads opening.prompt opening.budget
     c.in-Ok-begin.ensures.arguments
 
 begun : (g : Over) (c : goal.After-run_session-arg-in-Ok-begin-2-1 g)
