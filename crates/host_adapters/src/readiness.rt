@@ -27,7 +27,10 @@ impl Readiness {
     pub(crate) fn at_a_call(self, asked: u64) -> Option<Readiness> {
         match self {
             Readiness::Ready => Some(Readiness::Ready),
-            Readiness::Rests { left, asked: before } => {
+            Readiness::Rests {
+                left,
+                asked: before,
+            } => {
                 let left = if before == asked { left } else { RESTS };
                 let left = left.checked_sub(1)?;
                 Some(Readiness::Rests { left, asked })

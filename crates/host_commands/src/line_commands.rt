@@ -34,8 +34,8 @@ use terminal_ports::listen_up;
 use unit_trait::{Kind, Unit};
 
 /// ATTACH listens on ports for the lines of a unit, where no line has one of them: on one for the second teletype, and
-/// for the multiplexer on 64, from that one on. Ports are numbered from 1 to 65535. Where it is refused, the lines are as
-/// they were, and the ports before one that is not to be had are given up again. It prints nothing.
+/// for the multiplexer on 64, from that one on. Ports are numbered from 1 to 65535. Where it is refused, the lines are
+/// as they were, and the ports before one that is not to be had are given up again. It prints nothing.
 pub fn attach_port<U: Unit, L: Lines>(
     alloc: Global,
     session: &mut Session<U>,

@@ -8,3 +8,4 @@ pub mod UsedLemmas
 pub mod ValidProgram
 pub mod ResumptionLemmas
 pub mod CountLemmas
+pub mod OrderLemmas

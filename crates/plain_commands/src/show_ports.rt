@@ -140,11 +140,7 @@ fn show_row<U: Unit, S: Sink>(
 }
 
 // Prints the text of the multiplexer's lines.
-fn put_row<U: Unit, S: Sink>(
-    machine: &Machine<U>,
-    row: LineRow,
-    out: &mut S,
-) -> Result<(), Failed>
+fn put_row<U: Unit, S: Sink>(machine: &Machine<U>, row: LineRow, out: &mut S) -> Result<(), Failed>
     requires some { 1 ≤ row.count }
     requires last { row.number + row.count ≤ 65 }
     ensures told { IsTrue S.tells

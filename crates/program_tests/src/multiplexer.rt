@@ -4,7 +4,8 @@ use std::test::Fail;
 
 /// A program that starts a line, waits for a byte of any, and sends back what AC1 has then, on the line of AC0. The
 /// caller is that of line 3.
-const ECHOES: &str = "words=-q | types=A | lines=D 100 62030~D 101 63630~D 102 777~D 103 64530~D 104 65030~D 105 63530~D 106 777~D 107 63077~D AC0 3~ATTACH QTY 3997~";
+const ECHOES: &str =
+    "words=-q | types=A | lines=D 100 62030~D 101 63630~D 102 777~D 103 64530~D 104 65030~D 105 63530~D 106 777~D 107 63077~D AC0 3~ATTACH QTY 3997~";
 
 const HEARD: &str =
     "sent= | more=GO 100~SHOW TIME~E AC1~SHOW QTY~ | then=~HALT instruction, PC: 00110 (000000)~Time: 202~AC1:\t101501~QTY, listening on ports 3997 to 4060, 1 connected~
@@ -17,7 +18,8 @@ sent= | more=GO 100~RESET~SHOW QTY~ | then=~HALT instruction, PC: 00110 (000000)
 ; the call that accepts at the first service fails, and that of the second does not
 sent= | refuses=64 | lost=1 | more=GO 100~SHOW TIME~ | then=~HALT instruction, PC: 00110 (000000)~Time: 302~";
 
-const REFUSED: &str = "lines=SHOW QTY~DETACH QTY~DETACH ALL~ | prints=QTY, not attached~Unit not attached~
+const REFUSED: &str =
+    "lines=SHOW QTY~DETACH QTY~DETACH ALL~ | prints=QTY, not attached~Unit not attached~
 lines=ATTACH QTY 65473~ATTACH QTY 5000~ATTACH TTI1 5010~SHOW QTY~ | prints=Value out of range~Port already in use~QTY, listening on ports 5000 to 5063~
 lines=ATTACH QTY 0~ATTACH QTY 65536~ATTACH QTY 18446744073709551615~SHOW QTY~ | prints=Value out of range~Value out of range~Value out of range~QTY, not attached~
 lines=ATTACH QTY 65472~SHOW QTY~DETACH QTY~ATTACH QTY 1~SHOW QTY~ | prints=QTY, listening on ports 65472 to 65535~QTY, listening on ports 1 to 64~
@@ -49,11 +51,6 @@ fn a_program_hears_and_answers_on_its_lines(rt: HostRuntime) -> Result<(), Fail>
 #[test]
 fn ports_in_a_row_are_given_or_refused(rt: HostRuntime) -> Result<(), Fail> {
     all(&rt, rt.alloc(), "words=-q", REFUSED)?;
-    all(
-        &rt,
-        rt.alloc(),
-        "words=-q | lines=ATTACH QTY 4000~",
-        ENDS,
-    )?;
+    all(&rt, rt.alloc(), "words=-q | lines=ATTACH QTY 4000~", ENDS)?;
     Ok(())
 }

@@ -270,12 +270,7 @@ fn first_in_row<N: Net>(
 }
 
 /// Whether the connection is the one on which that byte comes, while the ports of a row are asked in turn.
-fn comes_beside<N: Net>(
-    lines: &mut RealLines<'_, N>,
-    first: u16,
-    conn: ConnId,
-    byte: u8,
-) -> bool {
+fn comes_beside<N: Net>(lines: &mut RealLines<'_, N>, first: u16, conn: ConnId, byte: u8) -> bool {
     let mut buf = [0];
     for now in 0..10_000u64 {
         if first_in_row(lines, first, 1).is_some() {
@@ -301,9 +296,11 @@ fn is_let_in_at<N: Net>(
     let mut peer = connected(net, port)?;
     match first_in_row(lines, first, 10_000) {
         Some((at, conn)) => {
-            Ok(at == port
-                && comes_after_a_pause(lines, first, conn, &mut peer)
-                && goes_back(lines, conn, &mut peer, b'B'))
+            Ok(
+                at == port
+                    && comes_after_a_pause(lines, first, conn, &mut peer)
+                    && goes_back(lines, conn, &mut peer, b'B'),
+            )
         }
         None => Ok(false),
     }
@@ -408,7 +405,8 @@ fn takes_again<N: Net>(lines: &mut RealLines<'_, N>, peer: &mut TcpStream) -> bo
     let mut buf = [0];
     for now in 0..10_000u64 {
         if lines.send(ConnId(0), b"again", now) == Ok(5) {
-            return drained(peer, 5) == 5 && lines.receive(ConnId(0), &mut buf, now) == Ok(Received::NoneYet);
+            return drained(peer, 5) == 5
+                && lines.receive(ConnId(0), &mut buf, now) == Ok(Received::NoneYet);
         }
     }
     false

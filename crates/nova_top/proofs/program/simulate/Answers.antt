@@ -19,6 +19,7 @@ use Rattle.program_start.specs.WordFiles.{AreWordClosings, NamesTold, StartsWith
 use Rattle.nova_top.specs.Ends.{InputTells, HasKeysFile, HasScript}
 use Rattle.program_start.specs.Start.{Begins}
 use Rattle.nova_top.specs.Program.{OpensAs, script_text}
+use Rattle.nova_top.proofs.OrderLemmas.{in-bus-order}
 use Rattle.nova_top.proofs.OpeningLemmas.{text-begins, opens}
 use Rattle.nova_top.proofs.UsedLemmas.{words-named, course-told}
 use Rattle.command_words.specs.Words.{options_of, texts_of}
@@ -102,6 +103,10 @@ returns-in-Err-clause-cause g c =
     (g.C.Source.fault_count c.args.input.now) (sym c.options_of.ensures.options ∙ c.in-Some.is) c.in-Err.ensures.cause c.refuse_files.ensures.cause
 
 -- ---- a session
+
+-- its units stand in bus order
+pub new-requires : goal.new-requires
+new-requires g c = in-bus-order (map g.U.Unit.unit_state c.args.units.items) c.requires
 
 made : (g : Over) (c : goal.After-run_session-arg-in-Ok-begin-2-1 g) → Made (map g.U.Unit.unit_state c.args.units.items) c.in-Some.options c.in-Ok.session
 made g c = record {

@@ -1,4 +1,4 @@
-use Rattle.std.proofs.Common.{◌≡◌, ◌++◌, ◌∷◌, [], ℕ, List, codes, decimal, subst, rules}
+use Rattle.std.proofs.Common.{◌≡◌, ◌++◌, ℕ, List, codes, decimal, subst, rules}
 use Rattle.file_traits.specs.Streams.{Puts}
 use Rattle.plain_commands.proofs.show_ports.put_connected_row.Goals as goal
 

@@ -1,4 +1,4 @@
-use Rattle.std.proofs.Common.{ℕ, List, IsTrue, sym, ◌∙◌, subst}
+use Rattle.std.proofs.Common.{ℕ, List, IsTrue, sym, subst}
 use Rattle.file_traits.specs.Streams.{Puts}
 use Rattle.plain_commands.proofs.PortShows.{row-free}
 use Rattle.plain_commands.proofs.show_ports.put_row.Goals as goal
