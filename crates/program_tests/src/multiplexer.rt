@@ -1,5 +1,5 @@
 // Sessions whose multiplexer has ports, with a caller and without one.
-use crate::play::all;
+use crate::play::{all, all_over_lines};
 use std::test::Fail;
 
 /// A program that starts a line, waits for a byte of any, and sends back what AC1 has then, on the line of AC0. The
@@ -10,7 +10,7 @@ const ECHOES: &str =
 const HEARD: &str =
     "sent= | more=GO 100~SHOW TIME~E AC1~SHOW QTY~ | then=~HALT instruction, PC: 00110 (000000)~Time: 202~AC1:\t101501~QTY, listening on ports 3997 to 4060, 1 connected~
 ; the port is line 2's, which the program does not start
-more=DETACH QTY~ATTACH QTY 3998~D 110 0~STEP 400~SHOW QTY~ | then=~Step expired, PC: 00401 (000000)~QTY, listening on ports 3998 to 4061~
+more=DETACH QTY~ATTACH QTY 3998~D PC 100~STEP 400~SHOW QTY~ | then=~Step expired, PC: 00102 (000777)~QTY, listening on ports 3998 to 4061~
 ; behind a DETACH nobody is connected, and what waits to be sent is lost
 sent= | more=GO 100~DETACH QTY~SHOW QTY~ATTACH QTY 3997~SHOW QTY~ | then=~HALT instruction, PC: 00110 (000000)~QTY, not attached~QTY, listening on ports 3997 to 4060~
 ; a reset leaves ports and callers
@@ -33,7 +33,7 @@ refuses=0 | lost=1 | lines=ATTACH QTY 4000~SHOW QTY~DETACH QTY~ATTACH QTY 4000~S
 refuses=9 | lost=1 | lines=ATTACH QTY 4000~SHOW QTY~ATTACH TTI1 4005~SHOW TTI1~ | prints=Port not available~QTY, not attached~TTI1, listening on port 4005~
 refuses=63 | lost=1 | lines=ATTACH QTY 4000~ATTACH QTY 4000~SHOW QTY~ | prints=Port not available~QTY, listening on ports 4000 to 4063~
 ; forms of no command
-lines=ATTACH QTY tape~ATTACH -R QTY 4000~SET QTY DISCONNECT~SHOW QTY5~ | prints=Invalid number: 11~Invalid name: 10~Invalid name: 4~Invalid name: 5~";
+lines=ATTACH QTY tape~ATTACH -R QTY 4000~SET QTY DISCONNECT~SHOW QTY5~ | prints=Invalid number at 11~Invalid name at 10~Invalid name at 4~Invalid name at 5~";
 
 const ENDS: &str = "status=0
 more=EXIT 3~ | status=3
@@ -45,12 +45,23 @@ room=0 | more=E PC~EXIT~ | then=PC:\t00000~ | status=102 | ports=64";
 
 #[test]
 fn a_program_hears_and_answers_on_its_lines(rt: HostRuntime) -> Result<(), Fail> {
-    all(&rt, rt.alloc(), ECHOES, HEARD)
+    all_over_lines(&rt, rt.alloc(), ECHOES, HEARD)
 }
 
 #[test]
 fn ports_in_a_row_are_given_or_refused(rt: HostRuntime) -> Result<(), Fail> {
-    all(&rt, rt.alloc(), "words=-q", REFUSED)?;
-    all(&rt, rt.alloc(), "words=-q | lines=ATTACH QTY 4000~", ENDS)?;
+    all_over_lines(&rt, rt.alloc(), "words=-q", REFUSED)?;
+    all_over_lines(&rt, rt.alloc(), "words=-q | lines=ATTACH QTY 4000~", ENDS)?;
     Ok(())
+}
+
+/// A machine without it: the unit is missing before anything else is wrong, and no other unit lacks anything.
+const MISSING: &str =
+    "lines=ATTACH QTY 5000~DETACH QTY~SHOW QTY~E QTY BUSY~ | prints=No such name~No such name~No such name~No such name~
+lines=ATTACH TTI1 5000~ATTACH QTY 5000~ATTACH QTY 0~SHOW TTI1~ | prints=No such name~No such name~TTI1, listening on port 5000~
+lines=DETACH ALL~D QTY TIME 1~ | prints=No such name~";
+
+#[test]
+fn a_machine_without_it_has_no_such_name(rt: HostRuntime) -> Result<(), Fail> {
+    all(&rt, rt.alloc(), "words=-q", MISSING)
 }

@@ -42,7 +42,8 @@ pub fn standard_units(alloc: Global) -> Result<Vec<Box<dyn Unit>>, AllocError>
 
 /// These, and a new multiplexer behind them.
 pub fn all_units(alloc: Global) -> Result<Vec<Box<dyn Unit>>, AllocError>
-    ensures { IfOk result (λ units. map ⟦<Box<dyn Unit> as Unit>⟧.unit_state units.items ≡ eleven_units) }
+    ensures listed { IfOk result (λ units. map ⟦<Box<dyn Unit> as Unit>⟧.unit_state units.items ≡ eleven_units) }
+    ensures standard { IfOk result (λ units. IsStandard (map ⟦<Box<dyn Unit> as Unit>⟧.unit_state units.items)) }
 {
     let units = standard_units(alloc)?;
     let multiplexer: Box<dyn Unit> = boxed_multiplexer(alloc)?;
