@@ -8,4 +8,3 @@ pub mod UsedLemmas
 pub mod ValidProgram
 pub mod ResumptionLemmas
 pub mod CountLemmas
-pub mod OrderLemmas

@@ -19,7 +19,7 @@ use Rattle.program_start.specs.WordFiles.{AreWordClosings, NamesTold, StartsWith
 use Rattle.nova_top.specs.Ends.{InputTells, HasKeysFile, HasScript}
 use Rattle.program_start.specs.Start.{Begins}
 use Rattle.nova_top.specs.Program.{OpensAs, script_text}
-use Rattle.nova_top.proofs.OrderLemmas.{in-bus-order}
+use Rattle.command_words.proofs.StandardLemmas.{in-bus-order}
 use Rattle.nova_top.proofs.OpeningLemmas.{text-begins, opens}
 use Rattle.nova_top.proofs.UsedLemmas.{words-named, course-told}
 use Rattle.command_words.specs.Words.{options_of, texts_of}
