@@ -25,10 +25,12 @@ def add_arguments(parser):
 
 def must_exist(arguments, alone=False):
     """Ends the script where our program, or dgnova beside which it runs, is missing."""
-    for program in (arguments.nova,) if alone else (arguments.nova, arguments.dgnova):
+    wanted = {arguments.nova: "make it with ./nova"}
+    if not alone:
+        wanted[arguments.dgnova] = "apt-get install simh"
+    for program, hint in wanted.items():
         if shutil.which(program) is None:
-            hint = " (apt-get install simh)" if program == arguments.dgnova else " (make it with ./nova)"
-            sys.exit(f"{program}: not found{hint}")
+            sys.exit(f"{program}: not found ({hint})")
 
 
 def run_nova(program, lines, seconds=600, under=()):

@@ -14,3 +14,4 @@ pub mod SetLemmas
 pub mod ScriptLemmas
 pub mod OwnLines
 pub mod NumberedLines
+pub mod RowLines

@@ -19,13 +19,15 @@ use Rattle.file_commands.specs.declared.note.Subject.TheVariants as subject
 use Rattle.file_commands.specs.Notes.{CommandNote}
 use Rattle.whole_files.specs.Whole.{WholeSaid, WholeIs, NotThere, TooLong, CallFailed, longest_file, closed, bytes_act, open_act, found_act, whole_act}
 use Rattle.whole_files.specs.Writing.{write_act}
+use Rattle.terminal_ports.specs.Rows.{row_from}
+use Rattle.terminal_ports.specs.Listening.{unless_failed, listening_each}
 use Rattle.nova_machine.specs.Machine.{console_place, place_of as line_place}
 use Rattle.nova_machine.specs.Seen.{attached_in}
 use Rattle.nova_machine.specs.Valid.{CopyIsFile}
 use Rattle.state_text.specs.declared.fault.StateFault.{StateFault}
 use Rattle.saved_files.specs.declared.taking.UnitPlace.{UnitPlace}
 use Rattle.saved_session.specs.declared.saved.SavedPorts.{SavedPorts}
-use Rattle.state_transfer.specs.Ports.{row_from, how_many, multiplexer_lines, assigned, ports_wanted}
+use Rattle.state_transfer.specs.Ports.{how_many, multiplexer_lines, assigned, ports_wanted}
 use Rattle.saved_session.specs.Parts.{State, FilePart}
 use Rattle.saved_session.specs.Ranges.{kind_at}
 use Rattle.state_transfer.specs.PutBack.{misses_unit, machine_from, lines_from, put_back}
@@ -45,7 +47,7 @@ use Rattle.command_session.specs.Live.{Live}
 use Rattle.command_session.specs.DiskFile.{is_of_both, is_left_by_disk, is_by_disk_at, disk_alone}
 use Rattle.command_session.specs.Reply.{Reply, refused}
 use Rattle.command_session.specs.WholeCalls.{whole_calls}
-use Rattle.state_commands.specs.StateEffects.{unit_claim, flushed_with, save_by, save_reply, unless_failed, listening_each, listened_back, restored_by, unless_missing, restored_as, restored_from, restore_reply}
+use Rattle.state_commands.specs.StateEffects.{unit_claim, flushed_with, save_by, save_reply, listened_back, restored_by, unless_missing, restored_as, restored_from, restore_reply}
 use Rattle.command_session.specs.Occupied.{is_occupied}
 use Rattle.scp_commands.specs.Effect.{effect}
 use Rattle.command_laws.proofs.AtRest.{savable}

@@ -1,9 +1,11 @@
 -- No command that works on files or lines, or runs, has a script next, but DO.
-use Rattle.std.proofs.Common.{ℕ, Bool, true, false, List, drop, Option, Some, None, Result, Ok, Err, if◌then◌else◌, nat_le, ◌&&◌, ◌^◌, min, unwrap_or, is_none, is_some}
+use Rattle.std.proofs.Common.{ℕ, Bool, true, false, List, drop, Option, Some, None, Result, Ok, Err, if◌then◌else◌, nat_le, ◌&&◌, ◌^◌, min, unwrap_or, is_none}
 use Rattle.file_commands.specs.declared.note.Subject.TheVariants as subject
 use Rattle.file_commands.specs.Notes.{CommandNote, failure_now}
+use Rattle.unit_trait.specs.declared.kind.Kind.{Kind}
 use Rattle.unit_trait.specs.declared.kind.UnitName.{UnitName}
-use Rattle.host_lines.specs.Traffic.{Answer as LineAnswer, Failed, Peer, Replied, listening}
+use Rattle.terminal_ports.specs.Listening.{rising, listening_each}
+use Rattle.host_lines.specs.Traffic.{Answer as LineAnswer, Failed, Peer, Replied}
 use Rattle.telnet_lines.specs.Line.{LineOf}
 use Rattle.unit_files.specs.Acts.{AttachSaid, Attached, UnitHasFile, OnlyWrites, NotThere, TooLong, CallFailed}
 use Rattle.unit_files.specs.Acts.{Failure, attach_said}
@@ -20,19 +22,19 @@ use Rattle.saved_files.specs.Putting.{FileRefusal, first_refused}
 use Rattle.saved_files.specs.Taking.{first_unsaved}
 use Rattle.state_transfer.specs.Session.{saved}
 use Rattle.state_text.specs.Text.{text}
+use Rattle.command_session.specs.declared.fault.CommandFault.{CommandFault}
 use Rattle.command_session.specs.declared.next.Next.{Next}
 use Rattle.command_session.specs.declared.next.Next.TheVariants.{Go, Do, Exit}
 use Rattle.command_session.specs.Live.{Live}
 use Rattle.command_session.specs.Reply.{Answer, Reply}
 use Rattle.command_session.specs.RunEffects.{run_answer, run_failure, ran, address_fits, started, run_from, stepped, step_of}
-use Rattle.terminal_ports.specs.Ports.{is_taken}
-use Rattle.command_session.specs.LineEffects.{terminal_place, terminal_line, is_port, listen_answer, attach_line, attach_port_reply, with_port, disconnect_reply}
+use Rattle.command_session.specs.LineEffects.{row_for, terminal_line, unless_refused, attach_fault, listen_answer, attach_port_reply, with_port, disconnect_reply}
 use Rattle.command_session.specs.FileEffects.{lacks_unit, mode_of, attach_answer, attach_reply}
 use Rattle.command_session.specs.FileEffects.{detach_all_reply, emptied_all, kept_answer}
 use Rattle.command_session.specs.ExitEffects.{exit_reply}
 use Rattle.command_session.specs.TapeEffects.{tape_in, tape_answer, load_answer, load_reply, can_dump, dump_of, dump_answer, dump_reply}
 use Rattle.command_session.specs.WholeCalls.{whole_calls, write_calls, wrote_answer}
-use Rattle.state_commands.specs.StateEffects.{unit_claim, flushed_with, save_by, save_reply, listening_each, listened_back, restored_by, unless_missing, restored_as, restored_from, restore_reply}
+use Rattle.state_commands.specs.StateEffects.{unit_claim, flushed_with, save_by, save_reply, listened_back, restored_by, unless_missing, restored_as, restored_from, restore_reply}
 use Rattle.command_session.specs.Occupied.{is_occupied}
 use Rattle.binary_load.specs.declared.faults.LoadFault.{LoadFault}
 use Rattle.binary_load.specs.Tape.{Tape}
@@ -84,14 +86,15 @@ listen_answer-none : (answer : LineAnswer) → NoScript (listen_answer answer)
 listen_answer-none Failed = tt
 listen_answer-none answer = tt
 
-attach_line-none : (line : Option (LineOf Peer)) (place port : ℕ) (live : Live) → NoScript (attach_line line place port live).answer
-attach_line-none None place port live = tt
-attach_line-none (Some line) place port live =
-    none-if (is_some line.port) _ _ tt (none-if (is_port port) _ _ (none-if (is_taken port live.lines) _ _ tt (listen_answer-none (listening live.ahead).answer)) tt)
+pub unless-none : (fault : Option CommandFault) (reply : Reply) (live : Live) → NoScript reply.answer → NoScript (unless_refused fault reply live).answer
+unless-none None reply live none = none
+unless-none (Some fault) reply live none = tt
 
-pub attach_port-none : (live : Live) (port : ℕ) → NoScript (attach_port_reply live port).answer
+pub attach_port-none : (live : Live) (kind : Kind) (port : ℕ) → NoScript (attach_port_reply live kind port).answer
 unfolding attach_port_reply
-attach_port-none live port = attach_line-none (terminal_line live.lines) terminal_place port live
+attach_port-none live kind port =
+    let row = row_for kind in
+    unless-none (attach_fault row port live.lines) _ live (listen_answer-none (listening_each (rising row.count port) live.ahead).answer)
 
 with_port-none : (line : Option (LineOf Peer)) (reply : Reply) (live : Live) → NoScript reply.answer → NoScript (with_port line reply live).answer
 with_port-none None reply live none = tt

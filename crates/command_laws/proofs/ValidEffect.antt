@@ -1,10 +1,12 @@
 -- Every command keeps what every state is, and what the disk holds of its file.
-use Rattle.std.proofs.Common.{◌≡◌, ◌≢◌, inl, inr, ℕ, zero, suc, ◌+◌, ◌^◌, ◌<◌, ◌≤◌, ◌==◌, ◌&&◌, not, nat_le, nat_lt, min, unwrap_or, Bool, true, false, List, [], ◌∷◌, length, drop, get_or, map, Option, Some, None, IfSome, option_map, Result, Ok, Err, if◌then◌else◌, refl, sym, ap, subst, ◌∙◌, arith, is_none, is_some}
+use Rattle.std.proofs.Common.{◌≡◌, ◌≢◌, inl, inr, ℕ, zero, suc, ◌+◌, ◌^◌, ◌<◌, ◌≤◌, ◌==◌, ◌&&◌, not, nat_le, nat_lt, min, unwrap_or, Bool, true, false, List, [], ◌∷◌, length, drop, get_or, map, Option, Some, None, option_map, Result, Ok, Err, if◌then◌else◌, refl, sym, ap, subst, ◌∙◌, arith, is_none}
 use Rattle.std.proofs.lemmas.Bool.{and_parts, leb-true, ltb-true}
 use Rattle.std.proofs.lemmas.List.{length-map, length-replicate}
 use Rattle.observations.specs.Observations.{Prints, map_made}
 use Rattle.observations.proofs.MadeLemmas.{stands-either, stands-mapped}
 use Rattle.file_traits.specs.Lists.{NamedBytes, bytes_of}
+use Rattle.unit_trait.specs.declared.kind.Kind.{Kind}
+use Rattle.unit_trait.specs.declared.kind.Kind.TheVariants.{Qty}
 use Rattle.unit_trait.specs.declared.kind.UnitName.{UnitName}
 use Rattle.unit_files.specs.Attachments.{Attachment, Held, attachments_of, attachment_at, with_attachment}
 use Rattle.unit_files.specs.Buffer.{Buffer, no_buffer, disk_unit}
@@ -29,7 +31,7 @@ use Rattle.unit_files.specs.Attachments.{no_attachments}
 use Rattle.nova_machine.specs.Seen.{unnumbered, attached_in}
 use Rattle.nova_machine.specs.Run.{run, last_time}
 use Rattle.std.specs.List.{AllByRecursion}
-use Rattle.nova_machine.specs.Valid.{AreBytes, IsByteName, AreShortActions, ValidExpect, ValidMachine, ValidWatch, IsPort, ValidLine, ValidAhead, Valid, CopyIsFile, DiskIsItsFile, KeepsFile}
+use Rattle.nova_machine.specs.Valid.{AreBytes, IsByteName, AreShortActions, ValidExpect, ValidMachine, ValidWatch, ValidLine, ValidAhead, Valid, CopyIsFile, DiskIsItsFile, KeepsFile}
 use Rattle.machine_laws.specs.ValidLaws.{StaysAs}
 use Rattle.machine_laws.proofs.StayingValid.{runs-stay-valid}
 use Rattle.nova_machine.specs.declared.machine.Stop.{Stop}
@@ -69,23 +71,28 @@ use Rattle.command_session.specs.WatchEffects.{text_of_quoted, lacks_room_for_br
 use Rattle.plain_commands.specs.ListEffects.{lacks_device, examine_after, examine_reply, handed, deposit_after, deposit_reply}
 use Rattle.command_session.specs.FileEffects.{first_place, lacks_unit, mode_of, attach_answer, attach_used, attached_machine, attach_with, attach_reply, detach_answer, detach_used, detached_machine, flushed_files, detach_with, detach_reply}
 use Rattle.command_session.specs.FileEffects.{filed_in, emptied_all, left_by, unported_by, kept_answer, emptied_reply, detach_all_reply, detach_one_or_all}
-use Rattle.host_lines.specs.Traffic.{Answer as LineAnswer, Peer, Replied, Ahead, Script, Answers, Quiet, Failed, replied, begun, listening}
+use Rattle.host_lines.specs.Traffic.{Answer as LineAnswer, Peer, Replied, Ahead, Failed}
 use Rattle.telnet_lines.specs.Line.{LineOf, unconnected}
-use Rattle.command_session.specs.LineEffects.{is_terminal, terminal_place, terminal_line, ported, closed, closed_by, unported, hung, hung_by, hung_up, is_port, listen_answer, listen_lines, listen_with, attach_line, attach_port_reply}
+use Rattle.command_session.specs.declared.terminal.LineRow.{LineRow}
+use Rattle.command_session.specs.LineEffects.{is_terminal, row_for, every_row, first_place as row_place, has_row, are_ports, terminal_place, terminal_line, ported, unported, hung, hung_up, unless_refused, attach_fault, listen_answer, listen_lines, listen_with, attach_port_reply}
 use Rattle.command_session.proofs.PortLemmas.{apart-unported, apart-hung, apart-ported}
-use Rattle.terminal_ports.specs.Ports.{changed_at, is_taken, HavePortsApart, AreNumbered}
+use Rattle.terminal_ports.specs.Ports.{HavePortsApart, AreNumbered}
+use Rattle.terminal_ports.specs.Rows.{row_from, are_taken}
+use Rattle.terminal_ports.specs.Listening.{rising, listening_each}
+use Rattle.terminal_ports.proofs.RowPorts.{given-length}
 use Rattle.terminal_ports.proofs.PortsApart.{apart-by}
 use Rattle.command_laws.proofs.OwnLines.{same-many, standard-by, standard-saved}
-use Rattle.command_laws.proofs.NumberedLines.{numbered-by, numbered-changed, numbered-back, apart-back, many-back}
+use Rattle.command_laws.proofs.NumberedLines.{numbered-by, numbered-changed, numbered-unported, numbered-closed, numbered-ported, numbered-back, apart-back, many-back}
+use Rattle.command_laws.proofs.RowLines.{valid-each, valid-hung, many-hung, valid-unported, many-unported, valid-ported}
 use Rattle.state_laws.proofs.PutBackRange.{kinds-put}
-use Rattle.command_session.specs.LineEffects.{with_port, detach_port_reply, disconnect_reply, show_line}
+use Rattle.command_session.specs.LineEffects.{detach_fault, with_port, detach_port_reply, disconnect_reply, show_line, show_ports}
 use Rattle.plain_commands.specs.ShowEffects.{show_reply}
 use Rattle.command_session.specs.ExitEffects.{exit_reply}
 use Rattle.plain_commands.specs.SetEffects.{sized, ruled, set_size_reply, set_autobit_reply}
 use Rattle.plain_commands.specs.ScriptEffects.{test_answer, assert_answer, echo_reply, assert_reply, goto_reply}
 use Rattle.host_commands.specs.DoEffects.{do_answer, do_reply}
 use Rattle.command_session.specs.WholeCalls.{whole_calls, write_calls, wrote_answer}
-use Rattle.state_commands.specs.StateEffects.{unit_claim, flushed_with, save_by, save_reply, heard_live, unless_failed, listening_each, listened_back, restored_by, unless_missing, restored_as, restored_from, restore_reply}
+use Rattle.state_commands.specs.StateEffects.{unit_claim, flushed_with, save_by, save_reply, heard_live, listened_back, restored_by, unless_missing, restored_as, restored_from, restore_reply}
 use Rattle.command_session.specs.Occupied.{is_occupied}
 use Rattle.command_session.specs.TapeEffects.{tape_in, tape_answer, loaded_machine, load_answer, load_reply, can_dump, dump_of, dump_answer, dump_reply}
 use Rattle.scp_commands.specs.Effect.{effect}
@@ -94,6 +101,7 @@ use Rattle.command_session.specs.Doing.{Does}
 use Rattle.command_session.specs.Remains.{flushed_machine, flushed, Remains}
 use Rattle.command_laws.specs.Valid.{IsProgramMachine, ValidLive, GivesBytes, CopyStays, IsValidReply, CommandsKeepStates}
 use Rattle.host_commands.proofs.FileKinds.{positioned-kinds}
+use Rattle.host_commands.proofs.PortFaults.{attach-asks}
 use Rattle.command_session.proofs.SeenLemmas.{attached-with}
 use Rattle.command_session.proofs.CloseLemmas.{none-other}
 use Rattle.command_laws.proofs.ValidWatch.{quoted-bytes, break-added, break-removed, breaks-removed, expect-added, expects-removed, sends-added, sends-removed}
@@ -211,7 +219,7 @@ lined-live live lines is all count ports numbered = record {
 }
 
 -- and with what is to come on them
-ahead-live : (live : Live) (ahead : Ahead) → ValidLive live → ValidAhead ahead → ValidLive (record live { ahead = ahead })
+pub ahead-live : (live : Live) (ahead : Ahead) → ValidLive live → ValidAhead ahead → ValidLive (record live { ahead = ahead })
 ahead-live live ahead is valid = record {
   valid = record {
     machine = is.valid.machine;
@@ -230,61 +238,9 @@ ahead-live live ahead is valid = record {
   numbered = is.numbered;
 }
 
--- a line to which nobody is connected
-free-valid : (port : Option ℕ) → IfSome port IsPort → ValidLine (unconnected port)
-free-valid port is = record { port = is; nothing = λ none. refl; keys = tt; output = tt; few_keys = omega arith; few_bytes = omega arith }
-
--- the line at a place has changed
-valid-changed : (place : ℕ) (change : LineOf Peer → LineOf Peer) (lines : List (LineOf Peer)) → ((line : LineOf Peer) → ValidLine line → ValidLine (change line)) → AllByRecursion ValidLine lines
-    → AllByRecursion ValidLine (changed_at place change lines)
-valid-changed place change [] changes all = tt
-valid-changed zero change (line ∷ lines) changes all = (changes line all.0, all.1)
-valid-changed (suc place) change (line ∷ lines) changes all = (all.0, valid-changed place change lines changes all.1)
-
-many-changed : (place : ℕ) (change : LineOf Peer → LineOf Peer) (lines : List (LineOf Peer)) → length (changed_at place change lines) ≡ length lines
-many-changed place change [] = refl
-many-changed zero change (line ∷ lines) = refl
-many-changed (suc place) change (line ∷ lines) = ap suc (many-changed place change lines)
-
-valid-ported : (port : Option ℕ) (lines : List (LineOf Peer)) → IfSome port IsPort → AllByRecursion ValidLine lines → AllByRecursion ValidLine (ported terminal_place port lines)
-valid-ported port lines is all = valid-changed terminal_place (λ (line : LineOf Peer). unconnected port) lines (λ line valid. free-valid port is) all
-
-closed-valid : (port : Option ℕ) (line : LineOf Peer) → ValidLine line → ValidLine (closed_by port line)
-closed-valid None line valid = valid
-closed-valid (Some port) line valid = free-valid None tt
-
-hung-valid : (port : Option ℕ) (line : LineOf Peer) → IfSome port IsPort → ValidLine line → ValidLine (hung_by port line)
-hung-valid None line is valid = valid
-hung-valid (Some port) line is valid = free-valid (Some port) is
-
-valid-unported : (lines : List (LineOf Peer)) → AllByRecursion ValidLine lines → AllByRecursion ValidLine (unported terminal_place lines)
-valid-unported lines all = valid-changed terminal_place closed lines (λ line valid. closed-valid line.port line valid) all
-
-valid-hung : (lines : List (LineOf Peer)) → AllByRecursion ValidLine lines → AllByRecursion ValidLine (hung_up terminal_place lines)
-valid-hung lines all = valid-changed terminal_place hung lines (λ line valid. hung-valid line.port line valid.port valid) all
-
 -- it is before those of the multiplexer
 before-others : terminal_place < line_place 1
 before-others = omega arith
-
--- there are as many lines as before
-many-ported : (port : Option ℕ) (lines : List (LineOf Peer)) → length (ported terminal_place port lines) ≡ length lines
-many-ported port lines = many-changed terminal_place (λ (line : LineOf Peer). unconnected port) lines
-
-many-unported : (lines : List (LineOf Peer)) → length (unported terminal_place lines) ≡ length lines
-many-unported lines = many-changed terminal_place closed lines
-
-many-hung : (lines : List (LineOf Peer)) → length (hung_up terminal_place lines) ≡ length lines
-many-hung lines = many-changed terminal_place hung lines
-
-valid-listening : (ahead : Ahead) → ValidAhead ahead → ValidAhead (listening ahead).ahead
-valid-listening (Script t) valid = by (t.fails 0)
-  where
-    by : (b : Bool) → ValidAhead (if b then replied Failed (Script (begun t)) else replied Quiet (Script (begun t))).ahead
-    by true = valid
-    by false = valid
-valid-listening (Answers []) valid = valid
-valid-listening (Answers (a ∷ more)) valid = valid.1
 
 stands-if : (b : Bool) (live : Live) (x y : Reply) → (b ≡ true → Stands live x) → (b ≡ false → Stands live y) → Stands live (if b then x else y)
 stands-if true live x y first second = first refl
@@ -518,24 +474,25 @@ stands-detach notes live unit drive is =
     stands-if (lacks_unit live.machine unit) live _ _ (λ _. stands-refused _ live is)
     (λ _. stands-detach_with (failure_now live.machine.time (subject.Unit unit) notes) unit live drive is)
 
-port-low : (port : ℕ) → is_port port ≡ true → IsPort port
-port-low port is =
-    let both = and_parts (nat_le 1 port) (nat_le port 65535) is in
-    let most = leb-true port 65535 both.1 in
-    (leb-true 1 port both.0, omega (arith, most))
+-- there are the lines that belong to the units
+lines-count : (live : Live) → ValidLive live → length live.lines ≡ suc (line_count live.machine.units)
+lines-count live is = is.count ∙ ap suc (length-replicate (line_count live.machine.units) (unconnected {P = ℕ} None))
 
-not-zero : (port : ℕ) → is_port port ≡ true → port ≢ 0
-not-zero port is none = let low : is_port 0 ≡ true = subst (λ (n : ℕ). is_port n ≡ true) none is in absurd (cc)
-
--- a port is listened on, or was not
-stands-listen_with : (said : Replied) (port : ℕ) (live : Live) → is_port port ≡ true → is_taken port live.lines ≡ false → ValidAhead said.ahead → ValidLive live
-    → Stands live (listen_with said terminal_place port live)
-stands-listen_with said port live low free valid is = by said.answer
+-- ports are listened on, or one was not to be had
+stands-listen_with : (said : Replied) (kind : Kind) (port : ℕ) (live : Live) → attach_fault (row_for kind) port live.lines ≡ None → ValidAhead said.ahead → ValidLive live
+    → Stands live (listen_with said (row_for kind) port live)
+stands-listen_with said kind port live none valid is = by said.answer
   where
+    row : LineRow
+    row = row_for kind
+
+    asks : (has_row row live.lines ≡ true) × (are_ports port row.count ≡ true) × (are_taken row.count port live.lines ≡ false)
+    asks = attach-asks row port live.lines none
+
     by : (answer : LineAnswer) → Stands live (record {
       made = [];
       answer = listen_answer answer;
-      after = standing 0 (record live { lines = listen_lines answer terminal_place port live.lines; ahead = said.ahead });
+      after = standing 0 (record live { lines = listen_lines answer row port live.lines; ahead = said.ahead });
     })
     by Failed = record {
       valid = record { after = ahead-live live said.ahead is valid; made = λ at h. absurd h; script = tt };
@@ -544,29 +501,27 @@ stands-listen_with said port live low free valid is = by said.answer
     }
     by other = record {
       valid = record {
-        after = lined-live (record live { ahead = said.ahead }) (ported terminal_place (Some port) live.lines) (ahead-live live said.ahead is valid)
-            (valid-ported (Some port) live.lines (port-low port low) is.valid.lines) (many-ported (Some port) live.lines)
-            (apart-ported port live.lines (not-zero port low) free is.ports)
-            (numbered-changed terminal_place (λ (line : LineOf Peer). unconnected (Some port)) live.lines before-others is.numbered);
+        after = lined-live (record live { ahead = said.ahead }) (ported row port live.lines) (ahead-live live said.ahead is valid)
+            (valid-ported row port live.lines asks.1 is.valid.lines) (given-length (row_from row.count (row_place row) port) live.lines)
+            (apart-ported row port live.lines asks.0 asks.1 asks.2 is.ports)
+            (numbered-ported kind port live.machine.units live.lines (lines-count live is) asks.0 is.numbered);
         made = λ at h. absurd h;
         script = tt;
       };
       holds = λ is. is;
-      stays = copy-same live (record live { lines = ported terminal_place (Some port) live.lines; ahead = said.ahead }) refl refl;
+      stays = copy-same live (record live { lines = ported row port live.lines; ahead = said.ahead }) refl refl;
     }
 
-stands-attach_port : (live : Live) (port : ℕ) → ValidLive live → Stands live (attach_port_reply live port)
+stands-attach_port : (live : Live) (kind : Kind) (port : ℕ) → ValidLive live → Stands live (attach_port_reply live kind port)
 unfolding attach_port_reply
-stands-attach_port live port is = by (terminal_line live.lines)
+stands-attach_port live kind port is = by (attach_fault (row_for kind) port live.lines) refl
   where
-    by : (line : Option (LineOf Peer)) → Stands live (attach_line line terminal_place port live)
-    by None = stands-refused _ live is
-    by (Some line) =
-        stands-if (is_some line.port) live _ _ (λ _. stands-refused _ live is)
-        (λ _. stands-if (is_port port) live _ _
-        (λ low. stands-if (is_taken port live.lines) live _ _ (λ _. stands-refused _ live is)
-        (λ free. stands-listen_with (listening live.ahead) port live low free (valid-listening live.ahead is.valid.ahead) is))
-        (λ _. stands-refused _ live is))
+    said : Replied
+    said = listening_each (rising (row_for kind).count port) live.ahead
+
+    by : (fault : Option CommandFault) → attach_fault (row_for kind) port live.lines ≡ fault → Stands live (unless_refused fault (listen_with said (row_for kind) port live) live)
+    by (Some fault) e = stands-refused fault live is
+    by None e = stands-listen_with said kind port live e (valid-each (rising (row_for kind).count port) live.ahead is.valid.ahead) is
 
 stands-with_port : (line : Option (LineOf Peer)) (lines : List (LineOf Peer)) (live : Live) → AllByRecursion ValidLine lines → length lines ≡ length live.lines → HavePortsApart lines
     → AreNumbered (drop (line_place 1) lines) → ValidLive live → Stands live (with_port line (goes (record live { lines = lines })) live)
@@ -575,10 +530,19 @@ stands-with_port (Some line) lines live all count ports numbered is =
     stands-if (is_none line.port) live _ _ (λ _. stands-refused _ live is)
     (λ _. stands-goes live (record live { lines = lines }) (lined-live live lines is all count ports numbered) refl refl)
 
-stands-detach_port : (live : Live) → ValidLive live → Stands live (detach_port_reply live)
+stands-detach_port : (live : Live) (kind : Kind) → ValidLive live → Stands live (detach_port_reply live kind)
 unfolding detach_port_reply
-stands-detach_port live is = stands-with_port (terminal_line live.lines) (unported terminal_place live.lines) live (valid-unported live.lines is.valid.lines) (many-unported live.lines)
-    (apart-unported terminal_place live.lines is.ports) (numbered-changed terminal_place closed live.lines before-others is.numbered) is
+stands-detach_port live kind is = by (detach_fault (row_for kind) live.lines)
+  where
+    row : LineRow
+    row = row_for kind
+
+    by : (fault : Option CommandFault) → Stands live (unless_refused fault (goes (record live { lines = unported row live.lines })) live)
+    by (Some fault) = stands-refused fault live is
+    by None =
+        stands-goes live (record live { lines = unported row live.lines })
+        (lined-live live (unported row live.lines) is (valid-unported row live.lines is.valid.lines) (many-unported row live.lines) (apart-unported row live.lines is.ports)
+        (numbered-unported kind live.machine.units live.lines (lines-count live is) is.numbered)) refl refl
 
 stands-disconnect : (live : Live) → ValidLive live → Stands live (disconnect_reply live)
 unfolding disconnect_reply
@@ -606,11 +570,11 @@ stands-emptied next notes live gives is = by-keeper e.kept refl
         record {
           valid = record {
             after =
-                lined-live (left_by None e.left live) (unported terminal_place live.lines)
+                lined-live (left_by None e.left live) (unported every_row live.lines)
                 (changed-live live m live.watch e.left.files is (filed-valid live.machine e.left.attached e.left.disk is.valid.machine filed.places filed.names filed.disk) refl refl refl
                 (program-filed live.machine m e.left.attached is.machine refl refl refl refl) is.valid.watch filed.files)
-                (valid-unported live.lines is.valid.lines) (many-unported live.lines) (apart-unported terminal_place live.lines is.ports)
-                (numbered-changed terminal_place closed live.lines before-others is.numbered);
+                (valid-unported every_row live.lines is.valid.lines) (many-unported every_row live.lines) (apart-unported every_row live.lines is.ports)
+                (numbered-closed live.machine.units live.lines (lines-count live is));
             made = λ at h. absurd h;
             script = gives;
           };
@@ -626,7 +590,7 @@ stands-detach_where : (notes : List CommandNote) (live : Live) (unit : Option Un
 unfolding detach_all_reply
 stands-detach_where notes live None kept is = stands-emptied Go notes live tt is
 stands-detach_where notes live (Some unit) kept is =
-    stands-if (is_terminal unit) live _ _ (λ _. stands-detach_port live is) (λ _. stands-detach notes live unit kept.1 is)
+    stands-if (is_terminal unit) live _ _ (λ _. stands-detach_port live unit.kind is) (λ _. stands-detach notes live unit kept.1 is)
 
 stands-exit : (notes : List CommandNote) (live : Live) (status : Option ℕ) → ValidLive live → Stands live (exit_reply notes live status)
 unfolding exit_reply
@@ -714,12 +678,16 @@ stands-show live shown.Expect is = stands-says _ live is
 stands-show live shown.Send is = stands-says _ live is
 stands-show live shown.Version is = stands-says _ live is
 stands-show live (shown.Unit unit) is =
-    stands-if (is_terminal unit) live _ _ (λ _. by-line (terminal_line live.lines))
+    stands-if (is_terminal unit) live _ _ (λ _. by-ports unit.kind)
     (λ _. stands-if (lacks_unit live.machine unit) live _ _ (λ _. stands-refused _ live is) (λ _. stands-says _ live is))
   where
     by-line : (line : Option (LineOf Peer)) → Stands live (show_line line live)
     by-line None = stands-refused _ live is
     by-line (Some line) = stands-says _ live is
+
+    by-ports : (kind : Kind) → Stands live (show_ports kind live)
+    by-ports Qty = stands-if (has_row (row_for Qty) live.lines) live _ _ (λ _. stands-says _ live is) (λ _. stands-refused _ live is)
+    by-ports kind = by-line (terminal_line live.lines)
 
 stands-echo : (live : Live) (text : List ℕ) → ValidLive live → Stands live (echo_reply live text)
 unfolding echo_reply
@@ -914,17 +882,6 @@ stands-listened_back said used s live valid back is = by said.answer
     }
     by other = stands-put_back used s live (Ok Go) said.ahead valid tt back
 
--- so it is where several ports are listened on, up to one that is not to be had
-valid-each : (ports : List ℕ) (ahead : Ahead) → ValidAhead ahead → ValidAhead (listening_each ports ahead).ahead
-unfolding listening_each
-valid-each [] ahead valid = valid
-valid-each (port ∷ ports) ahead valid =
-    by (listening ahead).answer (listening ahead).ahead (valid-listening ahead valid) (valid-each ports (listening ahead).ahead (valid-listening ahead valid))
-  where
-    by : (answer : LineAnswer) (behind : Ahead) → ValidAhead behind → ValidAhead (listening_each ports behind).ahead → ValidAhead (unless_failed answer behind (listening_each ports)).ahead
-    by Failed behind now more = now
-    by other behind now more = more
-
 stands-restored : (o : Option (UnitName × FileRefusal)) (used : ℕ) (s : State) (live : Live) → ValidLive (put_back s live) → ValidLive live → Stands live (restored_by o used s live)
 stands-restored (Some refusal) used s live back is = stands-answers _ _ live is tt
 stands-restored None used s live back is =
@@ -975,7 +932,7 @@ stands-effect limit notes live request.NoExpect is kept bytes = stands-no_expect
 stands-effect limit notes live (request.Send after delay text) is kept bytes = stands-send live after delay text is
 stands-effect limit notes live request.NoSend is kept bytes = stands-no_send live is
 stands-effect limit notes live (request.Attach option unit name) is kept bytes = stands-attach notes live option unit name kept.1.1 (record { bytes = bytes.name; short = kept.2.1 }) is
-stands-effect limit notes live (request.AttachPort kind port) is kept bytes = stands-attach_port live port is
+stands-effect limit notes live (request.AttachPort kind port) is kept bytes = stands-attach_port live kind port is
 stands-effect limit notes live (request.Detach unit) is kept bytes = stands-detach_where notes live unit kept is
 stands-effect limit notes live (request.SetSize k) is kept bytes = stands-set_size live k is
 stands-effect limit notes live (request.SetAutobit before) is kept bytes = stands-set_autobit live before is

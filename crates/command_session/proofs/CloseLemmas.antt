@@ -639,9 +639,9 @@ all-did step next number live new k tells text notes notes' plain does closes st
     by-keeper None is said = does _ _ (plain ∙ is, said)
     by-keeper (Some u) is said = (is, said)
 
--- ---- behind the files, the port of the second teletype
+-- ---- behind the files, the ports of the terminal lines
 
--- no unit has kept its file: the port is given up
+-- no unit has kept its file: the ports are given up
 pub closes-ported : (step : Type 0) (number : ℕ) (live mid new : Live) (notes notes' : List Note) → ClosesFiles step number live mid None notes notes'
     → new ≡ unported_by None mid → Closes step number live new None notes notes'
 closes-ported step number live mid new notes notes' closes is = record {
@@ -660,7 +660,7 @@ closes-ported step number live mid new notes notes' closes is = record {
   behind = closes.behind;
 }
 
--- one has kept it, and so does the terminal
+-- one has kept it, and the lines keep theirs
 pub closes-kept : (step : Type 0) (number : ℕ) (live new : Live) (unit : UnitName) (notes notes' : List Note) → ClosesFiles step number live new (Some unit) notes notes'
     → Closes step number live new (Some unit) notes notes'
 closes-kept step number live new unit notes notes' closes = record {

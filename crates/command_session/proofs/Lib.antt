@@ -10,6 +10,8 @@ pub mod DidLemmas
 pub mod GrowLemmas
 pub mod BehindLemmas
 pub mod PortLemmas
+pub mod RowsLeft
+pub mod RowLemmas
 pub mod WholeLemmas
 pub mod OwnFileLemmas
 pub mod KindLemmas

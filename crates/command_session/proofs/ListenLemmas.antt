@@ -1,10 +1,15 @@
 -- Commands that listen on no port.
-use Rattle.std.proofs.Common.{◌≢◌, inl, Bool, Err, refl, subst}
+use Rattle.std.proofs.Common.{◌≢◌, inl, ◌<◌, Bool, Err, refl, subst, arith}
+use Rattle.unit_trait.specs.declared.kind.Kind.{Kind}
+use Rattle.unit_trait.specs.declared.kind.Kind.TheVariants.{Qty}
+use Rattle.host_lines.specs.declared.lines.ListenFault.TheVariants as listen
+use Rattle.terminal_ports.proofs.Row.{first-refused}
 use Rattle.scp_parser.specs.Command.{Request, AttachPort, Restore}
 use Rattle.command_session.specs.declared.fault.CommandFault.TheVariants.{OutOfMemory, PortFailed}
 use Rattle.command_session.specs.Reply.{Answer}
 use Rattle.command_session.specs.Doing.{IsOwn, IsPlain, IsShown, IsRunAnswer}
 use Rattle.host_lines.specs.State.{LineState}
+use Rattle.command_session.specs.LineEffects.{row_for}
 use Rattle.command_session.specs.LinesLeft.{ListenCause}
 
 -- an answer that speaks of no port, of a command that listens on none
@@ -19,11 +24,17 @@ unlistening tells (AttachPort kind port) answer old new other none = absurd othe
 unlistening tells (Restore force name) answer old new other none = absurd other
 unlistening tells request answer old new other none = none
 
+-- a unit with ports has a line at least
+some-lines : (kind : Kind) → 0 < (row_for kind).count
+some-lines Qty = omega arith
+some-lines kind = omega arith
+
 -- nothing was asked of the outside
 pub unlistened : (tells : Bool) (request : Request) (answer : Answer) (s : LineState) → answer ≢ Err PortFailed → ListenCause tells request answer s s
 unlistened tells (AttachPort kind port) (Err PortFailed) s none = absurd (none refl)
 unlistened tells (AttachPort kind port) (Err OutOfMemory) s none =
-    (record { listens = refl; stands = refl; behind = refl; sent = refl; counted = refl }, λ _. refl)
+    first-refused tells (row_for kind).count port (some-lines kind) listen.OutOfMemory s s
+    (record { told = λ _. refl; listens = refl; stands = refl; behind = refl; sent = refl; counted = refl })
 unlistened tells (AttachPort kind port) answer s none = tt
 unlistened tells (Restore force name) (Err PortFailed) s none = absurd (none refl)
 unlistened tells (Restore force name) (Err OutOfMemory) s none = inl refl

@@ -1,59 +1,60 @@
--- What the answers of the commands of the second teletype say of its line.
-use Rattle.std.proofs.Common.{◌≡◌, ap, sym, refl, subst, ℕ, Bool, List, slice_get, slice_set, Option, Some, None, IsSome, Err}
+-- What the answers of the commands that work on ports say of lines.
+use Rattle.std.proofs.Common.{◌≡◌, sym, refl, ap, subst, arith, ℕ, zero, suc, ◌+◌, ◌-◌, ◌<◌, List, slice_get, slice_set, Option, Some, None, IsSome, Err}
 use Rattle.host_lines.specs.State.{LineState}
 use Rattle.telnet_lines.specs.Line.{LineOf}
-use Rattle.terminal_ports.specs.Ports.{is_taken}
+use Rattle.command_session.specs.declared.fault.CommandFault.{CommandFault}
 use Rattle.command_session.specs.declared.fault.CommandFault.TheVariants.{NoSuchName}
 use Rattle.command_session.specs.Reply.{Answer}
 use Rattle.command_session.specs.LineEffects.{terminal_place, closed, hung}
-use Rattle.command_session.specs.LinesLeft.{GivesUp, attaches_by, needs_port}
-use Rattle.command_session.specs.PortAnswers.{LinesStay, Lineless, DropsAt, attaches_at, detaches_at, disconnects_at, closes_at, AttachesPort, DetachesPort, Disconnects, ClosesPort}
+use Rattle.command_session.specs.LinesLeft.{GivesUp, needs_port}
+use Rattle.command_session.specs.PortAnswers.{LinesStay, Refused, DropsAt, disconnects_at, closes_at, ClosesEach, Disconnects}
 
 pub stays : (s : LineState) (before after : List (LineOf ℕ)) → after ≡ before → LinesStay s before s after
 stays s before after same = record { lines = same; outside = refl }
 
-module _ (s : LineState) (lines : List (LineOf ℕ)) (none : slice_get lines terminal_place ≡ None) where
-  lineless : Lineless (Err NoSuchName) s lines s lines
-  lineless = record { answer_is = refl; stay = stays s lines lines refl }
+-- a command that is refused before anything is asked
+pub refuses : (fault : CommandFault) (s : LineState) (lines : List (LineOf ℕ)) → Refused fault (Err fault) s lines s lines
+refuses fault s lines = record { answer_is = refl; stay = stays s lines lines refl }
 
-  pub none-attaches : (tells : Bool) (port : ℕ) → AttachesPort tells port (Err NoSuchName) s lines s lines
-  none-attaches tells port =
-      subst (λ (o : Option (LineOf ℕ)). attaches_at terminal_place o tells port (Err NoSuchName) s lines s lines) (sym none) lineless
+-- ---- the line at a place
 
-  pub none-detaches : DetachesPort (Err NoSuchName) s lines s lines
-  none-detaches = subst (λ (o : Option (LineOf ℕ)). detaches_at terminal_place o (Err NoSuchName) s lines s lines) (sym none) lineless
-
-  pub none-disconnects : Disconnects (Err NoSuchName) s lines s lines
-  none-disconnects = subst (λ (o : Option (LineOf ℕ)). disconnects_at terminal_place o (Err NoSuchName) s lines s lines) (sym none) lineless
-
-  pub none-closes : ClosesPort s lines s lines
-  none-closes = subst (λ (o : Option (LineOf ℕ)). closes_at terminal_place o s lines s lines) (sym none) (stays s lines lines refl)
-
-pub line-attaches : (tells : Bool) (port : ℕ) (answer : Answer) (old new : LineState) (lines : List (LineOf ℕ)) (line after : LineOf ℕ) → slice_get lines terminal_place ≡ Some line
-    → attaches_by line.port (is_taken port lines) tells port answer old line new after → AttachesPort tells port answer old lines new (slice_set lines terminal_place after)
-line-attaches tells port answer old new lines line after at attaches =
-    subst (λ (o : Option (LineOf ℕ)). attaches_at terminal_place o tells port answer old lines new (slice_set lines terminal_place after)) (sym at)
-    (record { changed = after; lines = refl; attaches = attaches })
-
-module _ (old new : LineState) (line after : LineOf ℕ) (none : line.port ≡ None → new ≡ old) where
+module _ (place : ℕ) (old new : LineState) (line after : LineOf ℕ) (none : line.port ≡ None → new ≡ old) where
   drops : (changed : LineOf ℕ) (given : Option ℕ) (lines : List (LineOf ℕ)) → after ≡ changed → (IsSome line.port → GivesUp given line.connection old new)
-      → DropsAt terminal_place changed given old lines line new (slice_set lines terminal_place after)
-  drops changed given lines is outside = record { lines = ap (slice_set lines terminal_place) is; none = none; outside = outside }
+      → DropsAt place changed given old lines line new (slice_set lines place after)
+  drops changed given lines is outside = record { lines = ap (slice_set lines place) is; none = none; outside = outside }
 
-  pub line-detaches : (answer : Answer) (lines : List (LineOf ℕ)) → slice_get lines terminal_place ≡ Some line → answer ≡ needs_port line.port → after ≡ closed line
-      → (IsSome line.port → GivesUp line.port line.connection old new) → DetachesPort answer old lines new (slice_set lines terminal_place after)
-  line-detaches answer lines at said is outside =
-      subst (λ (o : Option (LineOf ℕ)). detaches_at terminal_place o answer old lines new (slice_set lines terminal_place after)) (sym at)
-      (said, drops (closed line) line.port lines is outside)
-
-  pub line-disconnects : (answer : Answer) (lines : List (LineOf ℕ)) → slice_get lines terminal_place ≡ Some line → answer ≡ needs_port line.port → after ≡ hung line
-      → (IsSome line.port → GivesUp None line.connection old new) → Disconnects answer old lines new (slice_set lines terminal_place after)
-  line-disconnects answer lines at said is outside =
-      subst (λ (o : Option (LineOf ℕ)). disconnects_at terminal_place o answer old lines new (slice_set lines terminal_place after)) (sym at)
-      (said, drops (hung line) None lines is outside)
-
-  pub line-closes : (lines : List (LineOf ℕ)) → slice_get lines terminal_place ≡ Some line → after ≡ closed line
-      → (IsSome line.port → GivesUp line.port line.connection old new) → ClosesPort old lines new (slice_set lines terminal_place after)
+  pub line-closes : (lines : List (LineOf ℕ)) → slice_get lines place ≡ Some line → after ≡ closed line → (IsSome line.port → GivesUp line.port line.connection old new)
+      → closes_at place (slice_get lines place) old lines new (slice_set lines place after)
   line-closes lines at is outside =
-      subst (λ (o : Option (LineOf ℕ)). closes_at terminal_place o old lines new (slice_set lines terminal_place after)) (sym at)
-      (drops (closed line) line.port lines is outside)
+      subst (λ (o : Option (LineOf ℕ)). closes_at place o old lines new (slice_set lines place after)) (sym at) (drops (closed line) line.port lines is outside)
+
+pub none-closes : (place : ℕ) (s : LineState) (lines : List (LineOf ℕ)) → slice_get lines place ≡ None → closes_at place (slice_get lines place) s lines s lines
+none-closes place s lines none = subst (λ (o : Option (LineOf ℕ)). closes_at place o s lines s lines) (sym none) (stays s lines lines refl)
+
+-- ---- rows
+
+pub none-close : (n place : ℕ) (s : LineState) (lines : List (LineOf ℕ)) → n ≡ 0 → ClosesEach n place s lines s lines
+unfolding ClosesEach
+none-close zero place s lines none = stays s lines lines refl
+none-close (suc n) place s lines none = absurd (omega (arith, none))
+
+pub some-close : (n place left next : ℕ) (old mid new : LineState) (before between after : List (LineOf ℕ)) → 0 < n → left ≡ n - 1 → next ≡ place + 1
+    → closes_at place (slice_get before place) old before mid between → ClosesEach left next mid between new after → ClosesEach n place old before new after
+unfolding ClosesEach
+some-close zero place left next old mid new before between after some less more first behind = absurd (omega (arith, some))
+some-close (suc n) place left next old mid new before between after some less more first behind =
+    let same : left ≡ n = omega (arith, less) in
+    let one : next ≡ suc place = omega (arith, more) in
+    (mid, between, first, subst (λ (k : ℕ). ClosesEach n k mid between new after) one (subst (λ (k : ℕ). ClosesEach k next mid between new after) same behind))
+
+-- ---- SET of the second teletype
+
+pub none-disconnects : (s : LineState) (lines : List (LineOf ℕ)) → slice_get lines terminal_place ≡ None → Disconnects (Err NoSuchName) s lines s lines
+none-disconnects s lines none =
+    subst (λ (o : Option (LineOf ℕ)). disconnects_at terminal_place o (Err NoSuchName) s lines s lines) (sym none) (refuses NoSuchName s lines)
+
+pub line-disconnects : (old new : LineState) (line after : LineOf ℕ) → (line.port ≡ None → new ≡ old) → (answer : Answer) (lines : List (LineOf ℕ)) → slice_get lines terminal_place ≡ Some line
+    → answer ≡ needs_port line.port → after ≡ hung line → (IsSome line.port → GivesUp None line.connection old new) → Disconnects answer old lines new (slice_set lines terminal_place after)
+line-disconnects old new line after none answer lines at said is outside =
+    subst (λ (o : Option (LineOf ℕ)). disconnects_at terminal_place o answer old lines new (slice_set lines terminal_place after)) (sym at)
+    (said, drops terminal_place old new line after none (hung line) None lines is outside)

@@ -1,25 +1,26 @@
 -- What commands leave of the ports and the connections of the outside.
-use Rattle.std.proofs.Common.{◌≡◌, ◌≢◌, ◌⊎◌, inl, inr, ◌∙◌, ap, sym, refl, subst, arith, ℕ, ◌≤◌, ◌==◌, Bool, true, false, true≢false, IsTrue, List, [], ◌∷◌, length, zero, suc, map, slice_get, slice_set, Option, Some, None, IsSome, IfSome, is_some, option_map, if◌then◌else◌, Ok, Err}
+use Rattle.std.proofs.Common.{◌≡◌, ◌≢◌, ◌⊎◌, inl, inr, ◌∙◌, ap, sym, refl, subst, arith, ℕ, ◌+◌, ◌==◌, Bool, true, false, true≢false, IsTrue, List, [], ◌∷◌, length, zero, suc, map, slice_get, slice_set, Option, Some, None, IsSome, IfSome, is_some, option_map, if◌then◌else◌, Ok}
+use Rattle.std.specs.Prelude.{nat_le}
+use Rattle.std.proofs.lemmas.Bool.{and_parts, leb-true}
 use Rattle.std.proofs.lemmas.Option.{same_Some, slice_get-map}
 use Rattle.std.proofs.lemmas.Bool.Decides.{eqb_tells}
-use Rattle.fault_counts.specs.Faults.{raised}
 use Rattle.host_lines.specs.Traffic.{Peer}
 use Rattle.host_lines.specs.Told.{Told, IsFirst, record_in, SameKind}
 use Rattle.host_lines.specs.State.{LineState, IsListened, parties, with_one}
-use Rattle.host_lines.specs.LineCalls.{listen_faults}
-use Rattle.telnet_lines.specs.Line.{LineOf, IsSettled, unconnected, renamed}
-use Rattle.telnet_lines.specs.Joined.{seen_line, HasCaller, KeepsParties}
+use Rattle.telnet_lines.specs.Line.{LineOf, unconnected, renamed}
+use Rattle.telnet_lines.specs.Joined.{seen_line, HasCaller, IsRecorded, KeepsParties}
 use Rattle.telnet_lines.specs.Many.{AreApart}
 use Rattle.telnet_lines.proofs.Several.{stand_apart}
-use Rattle.telnet_lines.proofs.Apart.{is_or_not, same_kind, still_has, recorded_after}
-use Rattle.terminal_ports.specs.Ports.{changed_at, is_taken, HasOther, OthersHaveNone, HavePortsApart, HaveNone}
+use Rattle.telnet_lines.proofs.Apart.{is_or_not, same_kind, still_has}
+use Rattle.terminal_ports.specs.Ports.{changed_at, HasOther, OthersHaveNone, HavePortsApart, HaveNone}
+use Rattle.terminal_ports.specs.Rows.{changed_row, are_taken}
 use Rattle.terminal_ports.specs.Listening.{IsListening}
-use Rattle.terminal_ports.proofs.PortsApart.{changed-set, changed-none, changed-same, set-same, apart-by, none-given, free-apart, untaken}
-use Rattle.host_lines.specs.declared.lines.ListenFault.{ListenFault}
-use Rattle.host_lines.specs.declared.lines.ListenFault.TheVariants as listen
+use Rattle.terminal_ports.proofs.PortsApart.{changed-set, changed-none, changed-same, set-same, apart-by, none-given}
+use Rattle.terminal_ports.proofs.RowPorts.{apart-row}
 use Rattle.nova_machine.specs.LineChanges.{ports_of, HaveNoPort, HasConnection, AreLinesTold, LinesGoOn}
 use Rattle.nova_machine.proofs.LineSteps.{lines-stay, first-same, first-through, hears-same, hears-equal, hears-then, no-ports-same}
-use Rattle.command_session.specs.LineEffects.{terminal_place, ported, closed, closed_by, hung, hung_by, unported, hung_up}
+use Rattle.command_session.specs.declared.terminal.LineRow.{LineRow}
+use Rattle.command_session.specs.LineEffects.{has_row, first_place, ported, are_ports, closed, closed_by, hung, hung_by, unported, hung_up}
 use Rattle.command_session.specs.LinesLeft.{HasPort, AreListened, LinesLeft, GivesUp, SeenAs, without_any}
 
 -- ---- ports
@@ -58,14 +59,14 @@ many-by (l ∷ lines) (k ∷ others) same =
     let rest = many-by lines others more in
     omega (arith, rest)
 
-abbrev IsListenedAt : LineState → Option ℕ → Type 0
+abbrev pub IsListenedAt : LineState → Option ℕ → Type 0
 IsListenedAt s port = IfSome port (IsListened s)
 
 listened-at : (s s' : LineState) → s'.listens ≡ s.listens → (port : Option ℕ) → IsListenedAt s port → IsListenedAt s' port
 listened-at s s' same None is = tt
 listened-at s s' same (Some port) is = ap (λ (f : ℕ → Bool). f port) same ∙ is
 
-listened-by : (s s' : LineState) (lines others : List (LineOf ℕ)) → s'.listens ≡ s.listens → ports_of others ≡ ports_of lines → AreListened s lines → AreListened s' others
+pub listened-by : (s s' : LineState) (lines others : List (LineOf ℕ)) → s'.listens ≡ s.listens → ports_of others ≡ ports_of lines → AreListened s lines → AreListened s' others
 listened-by s s' [] [] same ports all = tt
 listened-by s s' [] (k ∷ others) same ports all = absurd (cc)
 listened-by s s' (l ∷ lines) [] same ports all = absurd (cc)
@@ -113,11 +114,6 @@ same-many [] place after = refl
 same-many (l ∷ lines) zero after = refl
 same-many (l ∷ lines) (suc place) after = let more = same-many lines place after in omega (arith, more)
 
--- the second teletype gets a port that no line has
-pub apart-listened : {P : Type 0} (lines : List (LineOf P)) (port : ℕ) → port ≢ 0 → is_taken port lines ≡ false → HavePortsApart lines
-    → HavePortsApart (slice_set lines terminal_place (unconnected (Some port)))
-apart-listened lines port some free own = free-apart terminal_place lines port some (untaken port lines free) own
-
 -- the same of lines in which the one at a place has changed, where it is there
 apart-changed : {P : Type 0} (place : ℕ) (change : LineOf P → LineOf P) (lines : List (LineOf P)) → HavePortsApart lines
     → ((line : LineOf P) → slice_get lines place ≡ Some line → HavePortsApart (slice_set lines place (change line))) → HavePortsApart (changed_at place change lines)
@@ -127,7 +123,7 @@ apart-changed {P} place change lines own changes = by (slice_get lines place) re
     by None none = subst (λ (ls : List (LineOf P)). HavePortsApart ls) (sym (changed-none change place lines none)) own
     by (Some line) at = subst (λ (ls : List (LineOf P)). HavePortsApart ls) (changed-set change place lines line at) (changes line at)
 
-closed-free : {P : Type 0} (port : Option ℕ) (line : LineOf P) → line.port ≡ port → (closed_by port line).port ≡ None
+pub closed-free : {P : Type 0} (port : Option ℕ) (line : LineOf P) → line.port ≡ port → (closed_by port line).port ≡ None
 closed-free None line is = is
 closed-free (Some port) line is = refl
 
@@ -135,17 +131,26 @@ hung-same : {P : Type 0} (port : Option ℕ) (line : LineOf P) → line.port ≡
 hung-same None line is = refl
 hung-same (Some port) line is = sym is
 
-pub apart-unported : {P : Type 0} (place : ℕ) (lines : List (LineOf P)) → HavePortsApart lines → HavePortsApart (unported place lines)
-apart-unported place lines own = apart-changed place closed lines own (λ line at. none-given place lines (closed line) (closed-free line.port line refl) own)
+apart-closed : {P : Type 0} (count place : ℕ) (lines : List (LineOf P)) → HavePortsApart lines → HavePortsApart (changed_row count place closed lines)
+unfolding changed_row
+apart-closed zero place lines own = own
+apart-closed (suc count) place lines own =
+    apart-closed count (suc place) (changed_at place closed lines)
+    (apart-changed place closed lines own (λ line at. none-given place lines (closed line) (closed-free line.port line refl) own))
+
+pub apart-unported : {P : Type 0} (row : LineRow) (lines : List (LineOf P)) → HavePortsApart lines → HavePortsApart (unported row lines)
+apart-unported row lines own = apart-closed row.count (first_place row) lines own
 
 pub apart-hung : {P : Type 0} (place : ℕ) (lines : List (LineOf P)) → HavePortsApart lines → HavePortsApart (hung_up place lines)
 apart-hung place lines own =
     apart-changed place hung lines own (λ line at. apart-by lines (slice_set lines place (hung line)) (same-ports lines place line (hung line) at (hung-same line.port line refl)) own)
 
-pub apart-ported : {P : Type 0} (port : ℕ) (lines : List (LineOf P)) → port ≢ 0 → is_taken port lines ≡ false → HavePortsApart lines
-    → HavePortsApart (ported terminal_place (Some port) lines)
-apart-ported {P} port lines some free own =
-    apart-changed terminal_place (λ (line : LineOf P). unconnected (Some port)) lines own (λ line at. apart-listened lines port some free own)
+-- a row that is there gets ports that no line has
+pub apart-ported : {P : Type 0} (row : LineRow) (port : ℕ) (lines : List (LineOf P)) → has_row row lines ≡ true → are_ports port row.count ≡ true
+    → are_taken row.count port lines ≡ false → HavePortsApart lines → HavePortsApart (ported row port lines)
+apart-ported row port lines there range free own =
+    apart-row row.count (first_place row) port lines (leb-true (first_place row + row.count) (length lines) there)
+    (leb-true 1 port (and_parts (nat_le 1 port) (nat_le (port + row.count) 65536) range).0) free own
 
 -- lines without a port
 pub apart-free : {P : Type 0} (lines : List (LineOf P)) → HaveNone lines → HavePortsApart lines
@@ -445,10 +450,10 @@ module _ (place : ℕ) (tells : Bool) (old new : LineState) (lines : List (LineO
 
   pub seen-closed : (line.port ≡ None → new ≡ old) → (IsSome line.port → GivesUp line.port line.connection old new)
       → (IsTrue tells → KeepsParties old line new (closed line)) → AreLinesTold tells old lines
-      → SeenAs (unported place) old lines new (slice_set lines place (closed line))
+      → SeenAs (changed_at place closed) old lines new (slice_set lines place (closed line))
   seen-closed none up keeps told = by line.port refl
     where
-      by : (port : Option ℕ) → line.port ≡ port → SeenAs (unported place) old lines new (slice_set lines place (closed line))
+      by : (port : Option ℕ) → line.port ≡ port → SeenAs (changed_at place closed) old lines new (slice_set lines place (closed line))
       by None is = seen-stays closed (closed line) (closed-none line is) (none is) (closed-none (seen_line old line) is)
       by (Some port) is =
           let free : closed line ≡ unconnected None = closed-some line port is in
@@ -508,28 +513,16 @@ one-added s s' port (Some q) same is = ap (λ (f : ℕ → Bool). f q) same ∙ 
     by true = refl
     by false = is
 
--- callers that other lines have stay theirs
-pub apart-still : (old new : LineState) (lines : List (LineOf ℕ)) → SameKind old.told new.told → parties new ≡ parties old → AreApart old lines → AreApart new lines
-apart-still old new lines kind same apart = record {
+-- callers that lines have stay theirs
+pub apart-still : (old new : LineState) (lines : List (LineOf ℕ)) → (IsRecorded old.told → IsRecorded new.told) → parties new ≡ parties old → AreApart old lines → AreApart new lines
+apart-still old new lines recorded same apart = record {
   linked = λ i line at conn own. still_has old new conn (ap (λ (f : ℕ → Peer). f conn) same) (apart.linked i line at conn own);
-  apart = λ i j one other differ here there conn own its.
-      recorded_after old.told new.told kind (apart.apart i j one other differ here there conn own its);
+  apart = λ i j one other differ here there conn own its. recorded (apart.apart i j one other differ here there conn own its);
 }
 
 -- what is seen of lines does not change with who is behind connections that they do not have
 pub seen-still : (old new : LineState) (lines : List (LineOf ℕ)) → parties new ≡ parties old → map (seen_line new) lines ≡ map (seen_line old) lines
 seen-still old new lines same = ap (λ (f : ℕ → Peer). map (renamed f) lines) same
-
--- a line that gets a port is seen so
-pub seen-changed : (s : LineState) (place port : ℕ) (lines : List (LineOf ℕ))
-    → map (seen_line s) (changed_at place (λ (line : LineOf ℕ). unconnected (Some port)) lines)
-    ≡ changed_at place (λ (line : LineOf Peer). unconnected (Some port)) (map (seen_line s) lines)
-seen-changed s place port [] = refl
-seen-changed s zero port (line ∷ lines) = refl
-seen-changed s (suc place) port (line ∷ lines) = ap (λ (l : List (LineOf Peer)). seen_line s line ∷ l) (seen-changed s place port lines)
-
-later-raised : (count : ℕ) → count ≤ raised count
-later-raised count = omega arith
 
 -- the port of each line is listened on, and so is the one that a line gets
 all-listened : (s s' : LineState) (port place : ℕ) (lines : List (LineOf ℕ)) (after : LineOf ℕ) → s'.listens ≡ with_one port s.listens → after.port ≡ Some port → AreListened s lines → AreListened s' (slice_set lines place after)
@@ -544,9 +537,9 @@ all-listened s s' port (suc place) (l ∷ lines) after same own all = (one-added
 
 module _ (place : ℕ) (tells : Bool) (old new : LineState) (lines : List (LineOf ℕ)) (line : LineOf ℕ) (port : ℕ) (at : slice_get lines place ≡ Some line) where
   -- the line has the port from then on
-  pub left-listened : IsListening tells port (Ok tt) old new → line.port ≡ None → IsSettled line → (HavePortsApart lines → HavePortsApart (slice_set lines place (unconnected (Some port))))
+  pub left-listened : IsListening tells port (Ok tt) old new → line.port ≡ None → line.connection ≡ None → (HavePortsApart lines → HavePortsApart (slice_set lines place (unconnected (Some port))))
       → LinesLeft tells old lines new (slice_set lines place (unconnected (Some port)))
-  left-listened listened none settled session = record {
+  left-listened listened none free session = record {
     ports = λ p is. elim (one-more port old.listens p (ap (λ (f : ℕ → Bool). f p) (sym listened.listens) ∙ is)) [
       | inl own ↦ inl (own-port p place lines line (unconnected (Some port)) at (ap Some (sym own)))
       | inr was ↦ elim (has-port-or-not p lines) [
@@ -555,7 +548,7 @@ module _ (place : ℕ) (tells : Bool) (old new : LineState) (lines : List (LineO
       ]
     ];
     owned = λ conn is. elim (has-connection-or-not conn lines) [
-      | inl has ↦ inl (other-connection conn place lines line (unconnected (Some port)) at (λ own. true≢false (ap is_some (sym own ∙ settled.port none))) has)
+      | inl has ↦ inl (other-connection conn place lines line (unconnected (Some port)) at (λ own. true≢false (ap is_some (sym own ∙ free))) has)
       | inr free ↦ inr (ap (λ (f : ℕ → Bool). f conn) (sym listened.stands) ∙ is, free)
     ];
     later = let same = listened.counted in omega (arith, same);
@@ -580,31 +573,6 @@ module _ (place : ℕ) (tells : Bool) (old new : LineState) (lines : List (LineO
         linked = λ was conn own. absurd (unlinked conn own);
       }
 
--- the outside refused it, or there was no memory
-pub left-unlistened : (tells : Bool) (old new : LineState) (lines : List (LineOf ℕ)) (port : ℕ) (fault : ListenFault) → IsListening tells port (Err fault) old new → LinesLeft tells old lines new lines
-left-unlistened tells old new lines port fault listened = record {
-  ports = λ p is. (left-same tells old lines).ports p (ap (λ (f : ℕ → Bool). f p) (sym listened.listens) ∙ is);
-  owned = λ conn is. (left-same tells old lines).owned conn (ap (λ (f : ℕ → Bool). f conn) (sym listened.stands) ∙ is);
-  later = subst (λ (n : ℕ). old.faults ≤ n) (sym listened.counted) (counted fault);
-  many = refl;
-  session = λ own. own;
-  listened = λ own all. listened-by old new lines lines listened.listens refl all;
-  told = λ tells apart. told fault listened tells apart;
-  heard = λ tells. hears-equal old.sent new.sent listened.sent;
-}
-  where
-    counted : (fault : ListenFault) → old.faults ≤ listen_faults (Err fault) old.faults
-    counted listen.Failed = later-raised old.faults
-    counted listen.OutOfMemory = omega arith
-
-    told : (fault : ListenFault) → IsListening tells port (Err fault) old new → IsTrue tells → AreApart old lines
-        → AreApart new lines × IsFirst (record_in old.told) (record_in new.told)
-    told listen.Failed listened is apart = (apart-still old new lines (listened.told is).kind listened.behind apart, (listened.told is).grows)
-    told listen.OutOfMemory listened is apart = (
-      apart-still old new lines (subst (λ (t : Told). SameKind old.told t) (sym (listened.told is)) (same_kind old.told)) listened.behind apart,
-      subst (λ (t : Told). IsFirst (record_in old.told) (record_in t)) (sym (listened.told is)) (first-same (record_in old.told)),
-    )
-
 -- ---- a line that is there or not
 
 pub seen-none : (change : LineOf Peer → LineOf Peer) (place : ℕ) (s : LineState) (lines : List (LineOf ℕ)) → slice_get lines place ≡ None → SeenAs (changed_at place change) s lines s lines
@@ -625,9 +593,9 @@ module _ (place : ℕ) (tells : Bool) (old new : LineState) (lines : List (LineO
       (left-closed place tells old new lines line at none up (keeps-as (closed line) is))
 
   pub close-seen : after ≡ closed line → (IsSome line.port → GivesUp line.port line.connection old new) → AreLinesTold tells old lines
-      → SeenAs (unported place) old lines new (slice_set lines place after)
+      → SeenAs (changed_at place closed) old lines new (slice_set lines place after)
   close-seen is up told =
-      subst (λ (l : LineOf ℕ). SeenAs (unported place) old lines new (slice_set lines place l)) (sym is)
+      subst (λ (l : LineOf ℕ). SeenAs (changed_at place closed) old lines new (slice_set lines place l)) (sym is)
       (seen-closed place tells old new lines line at none up (keeps-as (closed line) is) told)
 
   pub hang-left : after ≡ hung line → (IsSome line.port → GivesUp None line.connection old new) → LinesLeft tells old lines new (slice_set lines place after)

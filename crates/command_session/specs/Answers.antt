@@ -67,13 +67,13 @@ IsByTables (Some fault) answer = answer ≡ Err fault
 IsByTables None (Err fault) = is_by_tables fault ≡ false
 IsByTables None (Ok next) = Unit {0}
 
--- DETACH of a unit; what the second teletype's port has to do with it, its line says
+-- DETACH of a unit; of one with ports, what its lines have to do with it is said with them
 abbrev pub detach_tables : Bool → MachineState → UnitName → Answer → Type 0
 detach_tables true m unit answer = Unit {0}
 detach_tables false m unit answer = IsByTables (detach_refusal m unit) answer
 
--- The answers of the commands that work on files, or run. What the second teletype's port has to do with it, its line says;
--- the other commands are told whatever files and lines are.
+-- The answers of the commands that work on files, or run. Of one that works on ports, what lines have to do with it is said
+-- with them; the other commands are told whatever files and lines are.
 abbrev pub AnswersByTables : MachineState → Request → Answer → Type 0
 AnswersByTables m (Attach option unit name) answer = IsByTables (attach_refusal m option unit) answer
 AnswersByTables m (Run address) answer = IsByTables (out_of_range (address_fits address)) answer
@@ -118,7 +118,7 @@ OfAttach unit (Err (FileFailed who)) = IsOf (subject.Unit unit) who
 OfAttach unit (Err OutOfMemory) = Unit {0}
 OfAttach unit (Err fault) = IsTrue (is_by_tables fault)
 
--- a port is listened on
+-- ports are listened on
 abbrev pub OfPort : Answer → Type 0
 OfPort (Ok Go) = Unit {0}
 OfPort (Ok next) = ⊥
@@ -140,7 +140,7 @@ OfExit status (Ok next) = ⊥
 OfExit status (Err (FileFailed who)) = IsDisk who
 OfExit status (Err fault) = IsTrue (is_by_tables fault)
 
--- a line is given up, or hung up
+-- lines are given up, or one is hung up
 abbrev pub OfLine : Answer → Type 0
 OfLine (Ok Go) = Unit {0}
 OfLine (Ok next) = ⊥

@@ -448,7 +448,7 @@ pub record ClosesFiles (step : Type 0) (number : ℕ) (live new : Live) (keeper 
   pub content : step → new.files ≡ (filed_live (emptied_all own live) live).files
   pub behind : ComeBehind live own
 
--- the same at the end, where the port of the second teletype is given up behind that, if no unit has kept its file
+-- the same at the end, where the ports of the terminal lines are given up behind that, if no unit has kept its file
 pub record Closes (step : Type 0) (number : ℕ) (live new : Live) (keeper : Option UnitName) (notes notes' : List Note) : Type 0 where
   pub own : List CommandNote
   pub kept : notes' ≡ notes ++ numbered number own

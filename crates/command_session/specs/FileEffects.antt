@@ -22,7 +22,7 @@ use Rattle.command_session.specs.declared.next.Next.TheVariants.{Go}
 use Rattle.command_session.specs.declared.fault.CommandFault.TheVariants.{AlreadyAttached, NotAttached, ReadOnly, NoFile, FileTooLong, FileFailed, NoSuchName}
 use Rattle.command_session.specs.Live.{Live, standing, with_attached}
 use Rattle.command_session.specs.Reply.{Answer, Reply, refused}
-use Rattle.command_session.specs.LineEffects.{is_terminal, terminal_place, unported, detach_port_reply}
+use Rattle.command_session.specs.LineEffects.{is_terminal, every_row, unported, detach_port_reply}
 
 -- whether the units of a kind have files
 abbrev pub has_files : Kind → Bool
@@ -151,9 +151,9 @@ abbrev pub left_by : Option UnitName → Filed → Live → Live
 left_by None s live = record live { machine = record (with_attached live.machine s.attached) { disk = s.disk }; files = s.files }
 left_by (Some unit) s live = record live { files = s.files }
 
--- the second teletype has no port any more, where no unit has kept its file
+-- the terminal lines have no port any more, where no unit has kept its file
 abbrev pub unported_by : Option UnitName → Live → Live
-unported_by None live = record live { lines = unported terminal_place live.lines }
+unported_by None live = record live { lines = unported every_row live.lines }
 unported_by (Some unit) live = live
 
 abbrev pub filed_live : Emptied → Live → Live
@@ -170,15 +170,15 @@ kept_answer (Some unit) next = Err (FileFailed (subject.Unit unit))
 abbrev pub emptied_reply : Next → Emptied → Live → Reply
 emptied_reply next e live = record { made = []; answer = kept_answer e.kept next; after = standing e.used (emptied_live e live) }
 
--- DETACH ALL takes the files of all units away, in bus order, up to one that could not be written back, and then the port
--- of the second teletype
+-- DETACH ALL takes the files of all units away, in bus order, up to one that could not be written back, and then the
+-- ports of the terminal lines
 unfoldable pub detach_all_reply : List CommandNote → Live → Reply
 detach_all_reply notes live = emptied_reply Go (emptied_all notes live) live
 
 abbrev pub detach_one_or_all : List CommandNote → Live → Option UnitName → Reply
 detach_one_or_all notes live None = detach_all_reply notes live
 detach_one_or_all notes live (Some unit) =
-    if is_terminal unit then detach_port_reply live else detach_reply notes live unit
+    if is_terminal unit then detach_port_reply live unit.kind else detach_reply notes live unit
 
 -- ---- SHOW
 

@@ -1,23 +1,23 @@
 -- What a command leaves of the ports and the connections of the outside, told or not.
-use Rattle.std.specs.Prelude.{◌≡◌, ◌≢◌, ◌⊎◌, ◌≤◌, ℕ, Bool, true, false, IsTrue, List, [], ◌∷◌, length, map, Option, Some, None, IfSome, Result, Ok, Err}
+use Rattle.std.specs.Prelude.{◌≡◌, ◌≢◌, ◌⊎◌, ◌≤◌, ℕ, Bool, IsTrue, List, [], ◌∷◌, length, map, Option, Some, None, IfSome, Result, Ok, Err}
 use Rattle.std.specs.List.{AllByRecursion}
-use Rattle.fault_counts.specs.Faults.{raised}
+use Rattle.unit_trait.specs.declared.kind.Kind.{Kind}
 use Rattle.host_lines.specs.Traffic.{Peer}
 use Rattle.host_lines.specs.declared.lines.ListenFault.{ListenFault}
 use Rattle.host_lines.specs.declared.lines.ListenFault.TheVariants as listen
 use Rattle.host_lines.specs.Told.{IsFirst, record_in}
-use Rattle.host_lines.specs.State.{LineState, IsListened, parties, without_one}
-use Rattle.telnet_lines.specs.Line.{LineOf, unconnected}
+use Rattle.host_lines.specs.State.{LineState, IsListened, without_one}
+use Rattle.telnet_lines.specs.Line.{LineOf}
 use Rattle.telnet_lines.specs.Joined.{seen_line}
 use Rattle.telnet_lines.specs.Many.{AreApart}
 use Rattle.terminal_ports.specs.Ports.{HavePortsApart}
-use Rattle.terminal_ports.specs.Listening.{IsListening, ListensEach}
+use Rattle.terminal_ports.specs.Listening.{rising, ListensEach}
 use Rattle.nova_machine.specs.LineChanges.{HasConnection, HearsOn}
 use Rattle.scp_parser.specs.Command.{Request, AttachPort, Restore}
 use Rattle.command_session.specs.declared.next.Next.TheVariants.{Go}
-use Rattle.command_session.specs.declared.fault.CommandFault.TheVariants.{OutOfMemory, OutOfRange, PortTaken, PortFailed, AlreadyAttached, NotAttached}
+use Rattle.command_session.specs.declared.fault.CommandFault.TheVariants.{OutOfMemory, PortFailed, NotAttached}
 use Rattle.command_session.specs.Reply.{Answer}
-use Rattle.command_session.specs.LineEffects.{is_port}
+use Rattle.command_session.specs.LineEffects.{row_for}
 
 -- one of the lines has that port
 abbrev pub HasPort : ℕ → List (LineOf ℕ) → Type 0
@@ -28,10 +28,11 @@ HasPort port (line ∷ lines) = (line.port ≡ Some port) ⊎ HasPort port lines
 abbrev pub AreListened : LineState → List (LineOf ℕ) → Type 0
 AreListened s lines = AllByRecursion (λ (line : LineOf ℕ). IfSome line.port (IsListened s)) lines
 
--- What a call leaves: each port that is listened on and each connection that stands is one that a line has, or was there
--- before and no line's; the count of faults has not fallen. Where no two lines had one port, none have, and the port of each line is
--- listened on if those of all lines were before. Where the outside tells what comes, what callers had heard stays in front of what they hear then; and
--- where no two lines have one connection, none have then, and a record of answers has grown at its end.
+-- What a call leaves: each port that is listened on and each connection that stands is one that a line has, or was
+-- there before and no line's; the count of faults has not fallen. Where no two lines had one port, none have, and the
+-- port of each line is listened on if those of all lines were before. Where the outside tells what comes, what callers
+-- had heard stays in front of what they hear then; and where no two lines have one connection, none have then, and a
+-- record of answers has grown at its end.
 pub record LinesLeft (tells : Bool) (old : LineState) (before : List (LineOf ℕ)) (new : LineState) (after : List (LineOf ℕ)) : Type 0 where
   pub ports : (port : ℕ) → IsTrue (new.listens port) → HasPort port after ⊎ (IsTrue (old.listens port) × (¬ HasPort port before))
   pub owned : (conn : ℕ) → IsTrue (new.stands conn) → HasConnection conn after ⊎ (IsTrue (old.stands conn) × (¬ HasConnection conn before))
@@ -65,14 +66,6 @@ pub record SeenAs (change : List (LineOf Peer) → List (LineOf Peer)) (old : Li
 
 -- ---- a listening that came to nothing
 
--- nothing has changed but the count of faults, and what is told of the call
-pub record NotListened (count : ℕ) (old new : LineState) : Type 0 where
-  pub listens : new.listens ≡ old.listens
-  pub stands : new.stands ≡ old.stands
-  pub behind : parties new ≡ parties old
-  pub sent : new.sent ≡ old.sent
-  pub counted : new.faults ≡ count
-
 -- a port was not listened on, or memory ran out before
 abbrev pub Unlistened : Answer → Type 0
 Unlistened (Err PortFailed) = Unit {0}
@@ -85,14 +78,15 @@ IsUnlistened (AttachPort kind port) answer = Unlistened answer
 IsUnlistened (Restore force name) answer = Unlistened answer
 IsUnlistened request answer = ⊥
 
--- `Port not available` comes only where the count of faults rose. Where memory ran out, no call was made.
-abbrev pub AttachCause : Bool → Answer → LineState → LineState → Type 0
-AttachCause tells (Err PortFailed) old new = NotListened (raised old.faults) old new
-AttachCause tells (Err OutOfMemory) old new = NotListened old.faults old new × (IsTrue tells → new.told ≡ old.told)
-AttachCause tells answer old new = Unit {0}
+-- `Port not available` comes only where a listening failed, and the count of faults rose. The ports before it were
+-- given up again, and so were they where memory ran out.
+abbrev pub AttachCause : Bool → Kind → ℕ → Answer → LineState → LineState → Type 0
+AttachCause tells kind port (Err PortFailed) old new = ListensEach tells (rising (row_for kind).count port) (Err listen.Failed) old new
+AttachCause tells kind port (Err OutOfMemory) old new = ListensEach tells (rising (row_for kind).count port) (Err listen.OutOfMemory) old new
+AttachCause tells kind port answer old new = Unit {0}
 
--- The ports of a saved session were listened on one behind another: one was not to be had, or memory ran out before it, and
--- those before it were given up again.
+-- The ports of a saved session were listened on one behind another: one was not to be had, or memory ran out before it,
+-- and those before it were given up again.
 pub record SomeRefused (tells : Bool) (fault : ListenFault) (old new : LineState) : Type 0 where
   pub ports : List ℕ
   pub listened : ListensEach tells ports (Err fault) old new
@@ -105,7 +99,7 @@ RestoreCause tells answer old new = Unit {0}
 
 -- it is no answer of any other command
 abbrev pub ListenCause : Bool → Request → Answer → LineState → LineState → Type 0
-ListenCause tells (AttachPort kind port) answer old new = AttachCause tells answer old new
+ListenCause tells (AttachPort kind port) answer old new = AttachCause tells kind port answer old new
 ListenCause tells (Restore force name) answer old new = RestoreCause tells answer old new
 ListenCause tells request answer old new = answer ≢ Err PortFailed
 
@@ -114,38 +108,6 @@ abbrev pub listened_answer : Result (Unit {0}) ListenFault → Answer
 listened_answer (Ok x) = Ok Go
 listened_answer (Err listen.Failed) = Err PortFailed
 listened_answer (Err listen.OutOfMemory) = Err OutOfMemory
-
-abbrev pub listened_line : ℕ → Result (Unit {0}) ListenFault → LineOf ℕ → LineOf ℕ
-listened_line port (Ok x) line = unconnected (Some port)
-listened_line port (Err fault) line = line
-
--- a port within its range was to be listened on
-pub record Tried (tells : Bool) (port : ℕ) (answer : Answer) (old : LineState) (before : LineOf ℕ) (new : LineState) (after : LineOf ℕ) : Type 0 where
-  pub result : Result (Unit {0}) ListenFault
-  pub answer_is : answer ≡ listened_answer result
-  pub line_is : after ≡ listened_line port result before
-  pub listened : IsListening tells port result old new
-
--- Nothing was asked of the outside, and the line is as it was.
-pub record Untried (answer is : Answer) (old : LineState) (before : LineOf ℕ) (new : LineState) (after : LineOf ℕ) : Type 0 where
-  pub answer_is : answer ≡ is
-  pub line_is : after ≡ before
-  pub lines_are : new ≡ old
-
--- A line that has a port is refused another one; so is a port out of its range, and then one that another line has.
-abbrev pub free_by : Bool → Bool → ℕ → Answer → LineState → LineOf ℕ → LineState → LineOf ℕ → Type 0
-free_by true tells port answer old before new after = Untried answer (Err PortTaken) old before new after
-free_by false tells port answer old before new after = Tried tells port answer old before new after
-
-abbrev pub ranged : Bool → Bool → Bool → ℕ → Answer → LineState → LineOf ℕ → LineState → LineOf ℕ → Type 0
-ranged true taken tells port answer old before new after = free_by taken tells port answer old before new after
-ranged false taken tells port answer old before new after = Untried answer (Err OutOfRange) old before new after
-
-abbrev pub attaches_by : Option ℕ → Bool → Bool → ℕ → Answer → LineState → LineOf ℕ → LineState → LineOf ℕ → Type 0
-attaches_by None taken tells port answer old before new after =
-    ranged (is_port port) taken tells port answer old before new after
-attaches_by (Some p) taken tells port answer old before new after =
-    Untried answer (Err AlreadyAttached) old before new after
 
 -- what needs a port answers
 abbrev pub needs_port : Option ℕ → Answer

@@ -12,13 +12,13 @@ pub data Telling : Type 0 where
   Nothing : Telling
   -- lines, where one has a port
   Ported : Telling
-  -- all lines: it listens on a port
+  -- all lines: it listens on ports
   Listening : Telling
   -- all of them, where one is attached that a run may use
   Attached : Telling
   -- all files: it works on one by its name
   Named : Telling
-  -- all files and all lines: it works on one by its name, and may listen on a port
+  -- all files and all lines: it works on one by its name, and may listen on ports
   Whole : Telling
 
 pub record Nature : Type 0 where
@@ -46,7 +46,7 @@ of_nature telling takes_memory reads_whole leaves_part flushes = record {
 abbrev pub plain : Nature
 plain = of_nature Nothing false None false false
 
--- a DETACH, by its unit: the second teletype has a port, and all units include it
+-- a DETACH, by its unit: some have ports in place of a file, and all units include them
 abbrev pub detach_telling : Option UnitName → Telling
 detach_telling None = Ported
 detach_telling (Some unit) = if is_terminal unit then Ported else Nothing

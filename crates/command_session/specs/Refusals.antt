@@ -1,10 +1,8 @@
 -- What a command is refused for before it wants any memory.
-use Rattle.std.specs.Prelude.{◌≡◌, ◌<◌, ◌==◌, ◌&&◌, ℕ, nat_le, Bool, true, false, List, Some, None, option_map, Err, length}
+use Rattle.std.specs.Prelude.{◌≡◌, ◌<◌, ◌==◌, ◌&&◌, ℕ, nat_le, Bool, true, false, List, None, Err, length}
 use Rattle.file_traits.specs.State.{FileState}
 use Rattle.unit_files.specs.Attachments.{attachment_at}
 use Rattle.unit_files.specs.Acts.{refused_first}
-use Rattle.telnet_lines.specs.Line.{LineOf}
-use Rattle.terminal_ports.specs.Ports.{is_taken}
 use Rattle.expect_actions.specs.Expects.{most_expects}
 use Rattle.expect_actions.specs.Watch.{WatchState}
 use Rattle.nova_machine.specs.Machine.{MachineState}
@@ -16,14 +14,15 @@ use Rattle.command_session.specs.declared.fault.CommandFault.TheVariants.{NoFile
 use Rattle.command_session.specs.Reply.{Answer}
 use Rattle.command_session.specs.RunEffects.{last_address}
 use Rattle.command_session.specs.WatchEffects.{largest_count, lacks_room_for_break, can_be_expected, text_of_quoted}
-use Rattle.command_session.specs.LineEffects.{terminal_line, is_port}
+use Rattle.command_session.specs.LineEffects.{row_for, attach_fault}
 use Rattle.command_session.specs.FileEffects.{lacks_unit, mode_of}
 use Rattle.command_session.specs.Occupied.{is_occupied}
 use Rattle.command_session.specs.TapeEffects.{can_dump}
 
--- The command is refused for nothing that can be seen before memory is wanted: a number out of range or a full table of BREAK
--- and EXPECT; a unit of ATTACH that is not built, has a file already, or only writes where its file is only to be read; a port that
--- is out of range, or that another line has, or of a terminal that has one; addresses of DUMP that the memory does not have; something that is attached, of RESTORE.
+-- The command is refused for nothing that can be seen before memory is wanted: a number out of range or a full table of
+-- BREAK and EXPECT; a unit of ATTACH that is not built, has a file already, or only writes where its file is only to be
+-- read; ports that are out of range, or that a line has, or of a unit whose lines are not there or have some; addresses
+-- of DUMP that the memory does not have; something that is attached, of RESTORE.
 abbrev pub IsUnrefused : Request → MachineState → WatchState → Type 0
 IsUnrefused (Break at count actions) m w =
     ((nat_le at last_address && nat_le count largest_count) ≡ true) × (lacks_room_for_break at w.breaks.list ≡ false)
@@ -31,9 +30,7 @@ IsUnrefused (Expect count quoted actions) m w =
     (can_be_expected count (text_of_quoted quoted) ≡ true) × ((length w.expects.list == most_expects) ≡ false)
 IsUnrefused (Attach option unit name) m w =
     (lacks_unit m unit ≡ false) × (refused_first (attachment_at (attached_in m) unit) unit (mode_of option) ≡ None)
-IsUnrefused (AttachPort kind port) m w =
-    (option_map (λ (line : LineOf ℕ). line.port) (terminal_line m.lines) ≡ Some None)
-    × ((is_port port ≡ true) × (is_taken port m.lines ≡ false))
+IsUnrefused (AttachPort kind port) m w = attach_fault (row_for kind) port m.lines ≡ None
 IsUnrefused (Dump from to name) m w = can_dump m from to ≡ true
 IsUnrefused (Restore force name) m w = is_occupied (attached_in m) m.lines ≡ false
 IsUnrefused request m w = Unit {0}

@@ -8,7 +8,7 @@ ghost use Rattle.expect_actions.specs.Watch.{empty_watch};
 ghost use Rattle.unit_list.specs.BusOrder.{IsBusOrder};
 ghost use Rattle.nova_machine.specs.Machine.{attached_files, new_machine};
 
-use crate::terminal::close_terminal;
+use crate::terminal::{EVERY_ROW, close_row};
 use expect_actions::{Keys, Watch};
 use file_commands::{FaultNote, Stamp, detach_all, take_room};
 use file_traits::Files;
@@ -61,7 +61,7 @@ impl<U: Unit> Session<U> {
     ghost use Rattle.unit_files.specs.Attachments.{is_disk};
     ghost use Rattle.file_commands.specs.AllUnits.{keeper, IsUnwritten};
     ghost use Rattle.file_commands.specs.OwnFiles.{AreOwn};
-    ghost use Rattle.command_session.specs.PortAnswers.{ClosesPort};
+    ghost use Rattle.command_session.specs.PortAnswers.{ClosesPorts};
     ghost use Rattle.command_session.specs.Doing.{ClosesFiles, Closes, Keeps};
     ghost use Rattle.nova_machine.specs.LineChanges.{AreLinesTold};
     ghost use Rattle.command_session.specs.LinesLeft.{LinesLeft};
@@ -107,10 +107,10 @@ impl<U: Unit> Session<U> {
         take_room(&mut self.notes)
     }
 
-    /// Takes the files of all units away, in bus order, and then the port of the second teletype with its connection,
-    /// as at the end of the input. What the disk holds is written back first; where that fails, it is noted and
-    /// answered, and all units keep their files and the teletype its port. A closing that fails is noted, and the next
-    /// one follows.
+    /// Takes the files of all units away, in bus order, then the port of the second teletype, and then those of the
+    /// multiplexer, with their connections, as at the end of the input. What the disk holds is written back first;
+    /// where that fails, it is noted and answered, and all units keep their files and their ports. A closing that fails
+    /// is noted, and the next one follows.
     pub fn detach_all<F: Files, L: Lines>(
         &mut self,
         files: &mut F,
@@ -133,7 +133,7 @@ impl<U: Unit> Session<U> {
         ensures disk { IfErr result (λ f. IsTrue (is_disk f.unit.kind)) }
         ensures kept { OnErr result (self.new.machine.lines ≡ self.old.machine.lines) }
         ensures line { OnOk result
-            (ClosesPort (L.state lines.old) self.old.machine.lines (L.state lines.new) self.new.machine.lines) }
+            (ClosesPorts (L.state lines.old) self.old.machine.lines (L.state lines.new) self.new.machine.lines) }
         ensures keeps { Keeps self.old.command self.new.machine.time F.tells (kept_answer (keeper result) Go)
             self.old.notes self.new.notes (F.state files.old) (F.state files.new) }
         ensures cause { OnErr result
@@ -150,7 +150,7 @@ impl<U: Unit> Session<U> {
             → Around self.new.machine.slots base (F.state files.new).opened }
     {
         self.detach_files(files)?;
-        close_terminal(&mut self.machine, lines);
+        close_row(&mut self.machine, EVERY_ROW, lines);
         Ok(())
     }
 

@@ -1,4 +1,4 @@
-// Which units have files, and which one has a port.
+// Which units have files, and which ones have ports.
 ghost use Rattle.std.specs.Prelude.{◌≡◌, ◌<◌, true, false};
 ghost use Rattle.command_session.specs.LineEffects.{is_terminal};
 ghost use Rattle.command_session.specs.FileEffects.{lacks_unit};
@@ -6,12 +6,12 @@ ghost use Rattle.command_session.specs.FileEffects.{lacks_unit};
 use nova_machine::Machine;
 use unit_trait::{Kind, Unit, UnitName};
 
-/// Whether a unit is the second teletype, which has a port in place of a file.
+/// Whether a unit has ports in place of a file: the second teletype has one, and the multiplexer 64.
 pub fn is_terminal(unit: UnitName) -> bool
     ensures { result ≡ is_terminal unit }
 {
     match unit.kind {
-        Kind::Tti1 => true,
+        Kind::Tti1 | Kind::Qty => true,
         _ => false,
     }
 }

@@ -1,14 +1,15 @@
 // The units of a standard machine.
-ghost use Rattle.std.specs.Prelude.{map, IfOk};
-ghost use Rattle.command_words.specs.Standard.{IsStandard};
+ghost use Rattle.std.specs.Prelude.{◌≡◌, map, IfOk};
+ghost use Rattle.command_words.specs.Standard.{IsStandard, standard_units as ten_units};
 
 use standard_units::{boxed_units, in_bus_order};
 use std::alloc::{AllocError, Global};
 use unit_trait::Unit;
 
-/// A new unit of each kind that is built, in bus order.
+/// A new unit of each kind but the multiplexer, in bus order.
 pub fn standard_units(alloc: Global) -> Result<Vec<Box<dyn Unit>>, AllocError>
-    ensures { IfOk result (λ units. IsStandard (map ⟦<Box<dyn Unit> as Unit>⟧.unit_state units.items)) }
+    ensures listed { IfOk result (λ units. map ⟦<Box<dyn Unit> as Unit>⟧.unit_state units.items ≡ ten_units) }
+    ensures standard { IfOk result (λ units. IsStandard (map ⟦<Box<dyn Unit> as Unit>⟧.unit_state units.items)) }
 {
     let (
         disk,

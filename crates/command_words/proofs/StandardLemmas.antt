@@ -1,5 +1,5 @@
--- Lists that are the same, element by element.
-use Rattle.std.proofs.Common.{◌≡◌, ℕ, ◌+◌, ◌≤◌, ◌<◌, zero, suc, List, [], ◌∷◌, ◌++◌, length, get_or, take, map, refl, ap, sym, ◌∙◌, add-one, arith, Some, None, slice_get, option_map}
+-- Lists that are the same, element by element; and standard units stand in bus order.
+use Rattle.std.proofs.Common.{rules, ◌≡◌, inl, inr, subst, ℕ, ◌+◌, ◌≤◌, ◌<◌, zero, suc, List, [], ◌∷◌, ◌++◌, length, get_or, take, map, refl, ap, sym, ◌∙◌, add-one, arith, Some, None, slice_get, option_map}
 use Rattle.std.proofs.Math.Seq.{take-suc}
 use Rattle.std.proofs.lemmas.List.{take_all, length-map}
 use Rattle.std.proofs.lemmas.Option.{slice_get-map, slice_get_within, get_or_from_slice_get}
@@ -9,6 +9,8 @@ use Rattle.unit_trait.specs.Calls.{UnitState}
 use Rattle.unit_trait.specs.Row.{InRange, Fits}
 use Rattle.unit_trait.proofs.EveryKind.{every-kind}
 use Rattle.unit_trait.proofs.LineRegisters.{registers-many}
+use Rattle.unit_list.specs.BusOrder.{IsBusOrder}
+use Rattle.command_words.specs.Standard.{IsStandard, standard_units, all_units}
 
 -- one element more
 pub same-more : {A : Type 0} (xs ys : List A) (i : ℕ) (d : A) → i < length xs → i < length ys → take i xs ≡ take i ys → get_or xs i d ≡ get_or ys i d
@@ -55,3 +57,15 @@ few_registers = every-kind (λ (k : Kind). length (registers k) ≤ 131)
 
 pub few-initials : (kind : Kind) → length (initials (registers kind)) ≤ 131
 few-initials kind = let few = few_registers kind in let same = length-map (registers kind) (λ (r : Register). r.initial) in omega (arith, few, same)
+
+-- ---- standard units stand in bus order: the ten, and these and the multiplexer
+
+ten-order : IsBusOrder standard_units
+ten-order = search rules
+
+all-order : IsBusOrder all_units
+all-order = search rules
+
+pub in-bus-order : (units : List UnitState) → IsStandard units → IsBusOrder units
+in-bus-order units (inl is) = subst IsBusOrder (sym is) ten-order
+in-bus-order units (inr is) = subst IsBusOrder (sym is) all-order

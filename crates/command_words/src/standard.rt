@@ -5,7 +5,7 @@ ghost use Rattle.command_words.specs.Standard.{IsStandard};
 
 use unit_trait::{Kind, Unit, reg_initial};
 
-/// The kinds that are built, in bus order.
+/// The kinds that each machine of this program has, in bus order.
 const STANDARD_KINDS: [Kind; 10] = [
     Kind::Dsk,
     Kind::Mta,
@@ -19,12 +19,27 @@ const STANDARD_KINDS: [Kind; 10] = [
     Kind::Tto1,
 ];
 
-/// Whether the units are those that a machine of this program has: one of each kind that is built, in bus order, each
-/// with what its registers hold at first.
+/// These, and the multiplexer behind them.
+const ALL_KINDS: [Kind; 11] = [
+    Kind::Dsk,
+    Kind::Mta,
+    Kind::Lpt,
+    Kind::Ptr,
+    Kind::Ptp,
+    Kind::Clk,
+    Kind::Tti,
+    Kind::Tto,
+    Kind::Tti1,
+    Kind::Tto1,
+    Kind::Qty,
+];
+
+/// Whether the units are those that a machine of this program has: one of each of the ten kinds, in bus order, or these
+/// and the multiplexer behind them, each with what its registers hold at first.
 pub fn is_standard<U: Unit>(units: &[U]) -> bool
     ensures { IsTrue result ↔ IsStandard (map U.unit_state units.now) }
 {
-    are_initial(units, &STANDARD_KINDS)
+    are_initial(units, &STANDARD_KINDS) || are_initial(units, &ALL_KINDS)
 }
 
 // Whether the units are of these kinds, each before anything was asked of it.

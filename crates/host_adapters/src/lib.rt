@@ -5,6 +5,7 @@
 pub mod paged_files;
 mod positioned;
 pub mod reader_source;
+mod readiness;
 pub mod real_files;
 pub mod real_lines;
 mod retries;

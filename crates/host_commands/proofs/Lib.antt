@@ -5,10 +5,10 @@ pub mod AttachLemmas
 pub mod DetachLemmas
 pub mod DoLemmas
 pub mod ExitLemmas
+pub mod PortFaults
 pub mod PortCommands
 pub mod TapeLemmas
 pub mod StepLemmas
 pub mod HostAnswers
 pub mod NamedLemmas
 pub mod HostLemmas
-mod TakenLemmas

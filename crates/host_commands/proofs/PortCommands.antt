@@ -1,48 +1,44 @@
--- What ATTACH and DETACH of the second teletype come to, and SET of it.
-use Rattle.std.proofs.Common.{◌≡◌, ◌≢◌, ◌∙◌, ap, sym, refl, subst, ℕ, Bool, true, false, List, [], ◌∷◌, map, slice_get, slice_set, option_map, Option, Some, None, OnOk, is_some, is_none, if◌then◌else◌, Result, Ok, Err}
+-- What ATTACH and DETACH of the units with ports come to, and SET of the second teletype.
+use Rattle.std.proofs.Common.{◌≡◌, ◌↔◌, ◌∙◌, ap, sym, refl, subst, ℕ, ◌+◌, Bool, true, nat_le, List, length, map, slice_get, slice_set, option_map, Option, Some, None, IfSome, is_none, if◌then◌else◌, Result, Ok, Err}
+use Rattle.std.proofs.lemmas.Bool.{and_parts, leb-true}
 use Rattle.std.proofs.lemmas.Option.{slice_get-map}
 use Rattle.file_traits.specs.Lists.{NamedBytes}
-use Rattle.host_lines.specs.Traffic.{Peer, Answer as LineAnswer, Replied, replied, Quiet, Failed, listening}
+use Rattle.host_lines.specs.Traffic.{Peer, Answer as LineAnswer, Ahead, Replied, replied, Quiet, Failed}
 use Rattle.host_lines.specs.Told.{IsFirst, record_in, ahead_of}
-use Rattle.host_lines.specs.State.{LineState}
+use Rattle.host_lines.specs.State.{LineState, parties}
 use Rattle.host_lines.specs.declared.lines.ListenFault.{ListenFault}
 use Rattle.host_lines.specs.declared.lines.ListenFault.TheVariants as listen
-use Rattle.telnet_lines.specs.Line.{LineOf, IsSettled, unconnected}
+use Rattle.unit_trait.specs.declared.kind.Kind.{Kind}
+use Rattle.telnet_lines.specs.Line.{LineOf}
 use Rattle.telnet_lines.specs.Joined.{seen_line}
-use Rattle.terminal_ports.specs.Listening.{IsListening}
-use Rattle.terminal_ports.specs.Ports.{is_taken}
-use Rattle.terminal_ports.proofs.PortsApart.{changed-set, changed-same, set-same, taken-by}
+use Rattle.terminal_ports.specs.Listening.{rising, listening_each, ListensEach}
+use Rattle.terminal_ports.specs.Rows.{row_from, AreFree}
+use Rattle.terminal_ports.proofs.PortsApart.{changed-same, set-same}
+use Rattle.terminal_ports.proofs.Rows.{seen-ports}
+use Rattle.terminal_ports.proofs.RowTold.{each-said, failed-said}
 use Rattle.expect_actions.specs.Watch.{WatchState}
 use Rattle.nova_machine.specs.Machine.{MachineState, with_line}
 use Rattle.nova_machine.specs.Seen.{seen, beside}
 use Rattle.nova_machine.specs.Comes.{Output}
-use Rattle.nova_machine.specs.LineChanges.{ports_of}
+use Rattle.command_session.specs.declared.terminal.LineRow.{LineRow}
 use Rattle.command_session.specs.declared.next.Next.TheVariants.{Go}
-use Rattle.command_session.specs.declared.fault.CommandFault.TheVariants.{NoSuchName, NotAttached, AlreadyAttached, OutOfRange, PortTaken, PortFailed, OutOfMemory}
+use Rattle.command_session.specs.declared.fault.CommandFault.{CommandFault}
+use Rattle.command_session.specs.declared.fault.CommandFault.TheVariants.{NoSuchName, NotAttached, PortFailed, OutOfMemory}
 use Rattle.command_session.specs.Live.{Live, standing}
 use Rattle.command_session.specs.Reply.{Answer, Reply, goes, refused}
-use Rattle.command_session.specs.LineEffects.{terminal_place, terminal_line, ported, closed, unported, hung, hung_up, is_port, listen_with, listen_free, attach_line, attach_port_reply, with_port, detach_port_reply, disconnect_reply}
-use Rattle.command_session.specs.LinesLeft.{LinesLeft, SeenAs, Untried, listened_answer, listened_line, free_by, ranged, attaches_by, needs_port, AttachCause}
-use Rattle.command_session.specs.Doing.{Does, IsRefused}
-use Rattle.command_session.proofs.ReplyLemmas.{goes-said, refused-said}
-use Rattle.command_session.proofs.PortLemmas.{closed-none, hung-none, seen-still, seen-changed, left-same, left-listened, left-unlistened, apart-listened}
+use Rattle.command_session.specs.LineEffects.{row_for, first_place, terminal_place, terminal_line, ported, unported, hung, hung_up, unless_refused, attach_fault, listen_with, attach_port_reply}
+use Rattle.command_session.specs.LineEffects.{detach_fault, detach_port_reply, with_port, disconnect_reply}
+use Rattle.command_session.specs.LinesLeft.{LinesLeft, SeenAs, listened_answer, needs_port, AttachCause}
+use Rattle.command_session.specs.PortAnswers.{listened_lines, attaches_by, AttachesRow}
+use Rattle.command_session.specs.Doing.{Does, IsPlain, IsRefused}
+use Rattle.command_session.proofs.ReplyLemmas.{silent-does, goes-said, refused-said}
+use Rattle.command_session.proofs.PortLemmas.{hung-none, seen-still, left-same}
+use Rattle.command_session.proofs.RowsLeft.{left-row, left-refused}
+use Rattle.host_commands.proofs.PortFaults.{attach-each, attach-asks, attach-seen, detach-each, detach-seen}
 
 -- the line of the second teletype, as it is seen
 terminal-at : (s : LineState) (lines : List (LineOf ℕ)) (o : Option (LineOf ℕ)) → slice_get lines terminal_place ≡ o → terminal_line (map (seen_line s) lines) ≡ option_map (seen_line s) o
 terminal-at s lines o is = slice_get-map (seen_line s) lines terminal_place ∙ ap (option_map (seen_line s)) is
-
--- lines are seen with their ports
-seen-ports : (s : LineState) (lines : List (LineOf ℕ)) → ports_of (map (seen_line s) lines) ≡ ports_of lines
-seen-ports s [] = refl
-seen-ports s (line ∷ lines) = ap (λ (ps : List (Option ℕ)). line.port ∷ ps) (seen-ports s lines)
-
-seen-taken : (s : LineState) (lines : List (LineOf ℕ)) (port : ℕ) → is_taken port (map (seen_line s) lines) ≡ is_taken port lines
-seen-taken s lines port = taken-by port lines (map (seen_line s) lines) (seen-ports s lines)
-
--- whether a line has the port was asked before
-pub taken-as : (taken tells : Bool) (old new : LineState) (lines : List (LineOf ℕ)) (line after : LineOf ℕ) (port : ℕ) (answer : Answer) → taken ≡ is_taken port lines
-    → attaches_by line.port taken tells port answer old line new after → attaches_by line.port (is_taken port lines) tells port answer old line new after
-taken-as taken tells old new lines line after port answer is told = subst (λ (t : Bool). attaches_by line.port t tells port answer old line new after) is told
 
 -- ---- what needs a port
 
@@ -69,33 +65,14 @@ port-does line live live' lines' answer tells text at none is said =
         subst (λ (l : Live). Does (goes (record live { lines = lines' })) (Ok Go) (standing 0 l) tells text text) (sym is)
         (refl, goes-said (record live { lines = lines' }) tells text)
 
-unported-none : (lines : List (LineOf Peer)) (line : LineOf Peer) → terminal_line lines ≡ Some line → line.port ≡ None → unported terminal_place lines ≡ lines
-unported-none lines line at none = changed-same closed terminal_place lines line at (closed-none line none)
-
 hung-up-none : (lines : List (LineOf Peer)) (line : LineOf Peer) → terminal_line lines ≡ Some line → line.port ≡ None → hung_up terminal_place lines ≡ lines
 hung-up-none lines line at none = changed-same hung terminal_place lines line at (hung-none line none)
 
 module _ (watch : WatchState) (keys : List (ℕ × ℕ)) (files : List NamedBytes) (whole : List LineAnswer) (m : MachineState) (tells : Bool) (text : Output) where
-  pub detach-unbuilt : (s : LineState) → slice_get m.lines terminal_place ≡ None
-      → Does (detach_port_reply (seen (beside watch keys files s) whole m)) (Err NoSuchName) (standing 0 (seen (beside watch keys files s) whole m)) tells text text
-  unfolding detach_port_reply
-  detach-unbuilt s none = no-terminal _ _ (seen (beside watch keys files s) whole m) tells text (terminal-at s m.lines None none)
-
   pub disconnect-unbuilt : (s : LineState) → slice_get m.lines terminal_place ≡ None
       → Does (disconnect_reply (seen (beside watch keys files s) whole m)) (Err NoSuchName) (standing 0 (seen (beside watch keys files s) whole m)) tells text text
   unfolding disconnect_reply
   disconnect-unbuilt s none = no-terminal _ _ (seen (beside watch keys files s) whole m) tells text (terminal-at s m.lines None none)
-
-  pub detach-does : (old new : LineState) (line after : LineOf ℕ) (answer : Answer) → slice_get m.lines terminal_place ≡ Some line → answer ≡ needs_port line.port
-      → SeenAs (unported terminal_place) old m.lines new (slice_set m.lines terminal_place after)
-      → Does (detach_port_reply (seen (beside watch keys files old) whole m)) answer (standing 0 (seen (beside watch keys files new) whole (with_line m terminal_place after))) tells text text
-  unfolding detach_port_reply
-  detach-does old new line after answer at said seen_as =
-      let live = seen (beside watch keys files old) whole m in
-      let there = terminal-at old m.lines (Some line) at in
-      port-does (seen_line old line) live (seen (beside watch keys files new) whole (with_line m terminal_place after)) (unported terminal_place live.lines) answer tells text there
-      (unported-none live.lines (seen_line old line) there)
-      (λ i. record live { lines = seen_as.lines i; ahead = ahead_of (seen_as.told i) whole }) said
 
   pub disconnect-does : (old new : LineState) (line after : LineOf ℕ) (answer : Answer) → slice_get m.lines terminal_place ≡ Some line → answer ≡ needs_port line.port
       → SeenAs (hung_up terminal_place) old m.lines new (slice_set m.lines terminal_place after)
@@ -108,225 +85,201 @@ module _ (watch : WatchState) (keys : List (ℕ × ℕ)) (files : List NamedByte
       (hung-up-none live.lines (seen_line old line) there)
       (λ i. record live { lines = seen_as.lines i; ahead = ahead_of (seen_as.told i) whole }) said
 
+  -- ---- what is refused
+
+  refused-does : (fault : CommandFault) (reply : Reply) (live : Live) (o : Option CommandFault) → o ≡ Some fault → IfSome o (λ (f : CommandFault). IsPlain (Err f))
+      → Does (unless_refused o reply live) (Err fault) (standing 0 live) tells text text
+  refused-does fault reply live o is plain =
+      let own : IsPlain (Err fault) = subst (λ (x : Option CommandFault). IfSome x (λ (f : CommandFault). IsPlain (Err f))) is plain in
+      subst (λ (x : Option CommandFault). Does (unless_refused x reply live) (Err fault) (standing 0 live) tells text text) (sym is)
+      (silent-does (refused fault live) (Err fault) (standing 0 live) tells text own refl refl refl)
+
+  goes-on : (reply : Reply) (answer : Answer) (live live' : Live) (o : Option CommandFault) → o ≡ None → Does reply answer (standing 0 live') tells text text
+      → Does (unless_refused o reply live) answer (standing 0 live') tells text text
+  goes-on reply answer live live' o none does =
+      subst (λ (x : Option CommandFault). Does (unless_refused x reply live) answer (standing 0 live') tells text text) (sym none) does
+
+  -- ---- DETACH
+
+  pub detach-refused-does : (s : LineState) (kind : Kind) (fault : CommandFault) → Some fault ≡ detach_fault (row_for kind) m.lines
+      → Does (detach_port_reply (seen (beside watch keys files s) whole m) kind) (Err fault) (standing 0 (seen (beside watch keys files s) whole m)) tells text text
+  unfolding detach_port_reply
+  detach-refused-does s kind fault is =
+      let live = seen (beside watch keys files s) whole m in
+      refused-does fault (goes (record live { lines = unported (row_for kind) live.lines })) live (detach_fault (row_for kind) live.lines) (detach-seen s (row_for kind) m.lines ∙ sym is)
+      (detach-each (row_for kind) live.lines (λ (f : CommandFault). IsPlain (Err f)) tt tt)
+
+  pub detach-does : (old new : LineState) (kind : Kind) (after : List (LineOf ℕ)) → None ≡ detach_fault (row_for kind) m.lines → SeenAs (unported (row_for kind)) old m.lines new after
+      → Does (detach_port_reply (seen (beside watch keys files old) whole m) kind) (Ok Go) (standing 0 (seen (beside watch keys files new) whole (record m { lines = after }))) tells text text
+  unfolding detach_port_reply
+  detach-does old new kind after none shown =
+      let live = seen (beside watch keys files old) whole m in
+      let left = record live { lines = unported (row_for kind) live.lines } in
+      let same : seen (beside watch keys files new) whole (record m { lines = after }) ≡ left = λ i. record live { lines = shown.lines i; ahead = ahead_of (shown.told i) whole } in
+      goes-on (goes left) (Ok Go) live (seen (beside watch keys files new) whole (record m { lines = after })) (detach_fault (row_for kind) live.lines)
+      (detach-seen old (row_for kind) m.lines ∙ sym none)
+      (subst (λ (l : Live). Does (goes left) (Ok Go) (standing 0 l) tells text text) (sym same) (refl, goes-said left tells text))
+
   -- ---- ATTACH
 
-  pub attach-unbuilt : (s : LineState) (port : ℕ) → slice_get m.lines terminal_place ≡ None
-      → Does (attach_port_reply (seen (beside watch keys files s) whole m) port) (Err NoSuchName) (standing 0 (seen (beside watch keys files s) whole m)) tells text text
-  unfolding attach_port_reply
-  attach-unbuilt s port none =
-      let live = seen (beside watch keys files s) whole m in
-      subst (λ (o : Option (LineOf Peer)). Does (attach_line o terminal_place port live) (Err NoSuchName) (standing 0 live) tells text text) (sym (terminal-at s m.lines None none))
-      (refl, refused-said NoSuchName live tells text)
+  module _ (old new : LineState) (kind : Kind) (port : ℕ) where
+    abbrev row : LineRow
+    row = row_for kind
 
-  -- a line and an outside that are as they were
-  same-live : (old new : LineState) (line after : LineOf ℕ) → slice_get m.lines terminal_place ≡ Some line → after ≡ line → new ≡ old
-      → seen (beside watch keys files new) whole (with_line m terminal_place after) ≡ seen (beside watch keys files old) whole m
-  same-live old new line after at same still =
-      (λ i. seen (beside watch keys files (still i)) whole (with_line m terminal_place (same i)))
-      ∙ ap (λ (ls : List (LineOf ℕ)). seen (beside watch keys files old) whole (record m { lines = ls })) (set-same terminal_place m.lines line at)
+    abbrev live : Live
+    live = seen (beside watch keys files old) whole m
 
-  seen-ported : (old new : LineState) (line : LineOf ℕ) (port : ℕ) → slice_get m.lines terminal_place ≡ Some line → IsListening true port (Ok tt) old new
-      → map (seen_line new) (slice_set m.lines terminal_place (unconnected (Some port))) ≡ ported terminal_place (Some port) (map (seen_line old) m.lines)
-  seen-ported old new line port at listened =
-      ap (map (seen_line new)) (changed-set (λ (l : LineOf ℕ). unconnected (Some port)) terminal_place m.lines line at)
-      ∙ seen-changed new terminal_place port m.lines
-      ∙ ap (ported terminal_place (Some port)) (seen-still old new m.lines listened.behind)
+    abbrev left : List (LineOf ℕ) → Live
+    left after = seen (beside watch keys files new) whole (record m { lines = after })
 
-  attached : (old new : LineState) (line after : LineOf ℕ) (port : ℕ) (result : Result (Unit {0}) ListenFault) → slice_get m.lines terminal_place ≡ Some line
-      → after ≡ listened_line port result line → IsListening true port result old new → IsFirst (record_in new.told) whole
-      → Does (listen_with (listening (ahead_of old.told whole)) terminal_place port (seen (beside watch keys files old) whole m)) (listened_answer result)
-      (standing 0 (seen (beside watch keys files new) whole (with_line m terminal_place after))) tells text text
-  attached old new line after port (Ok x) at is listened first =
-      let live = seen (beside watch keys files old) whole m in
-      let said = (listened.told refl).gives whole first in
-      let lines = ap (λ (l : LineOf ℕ). map (seen_line new) (slice_set m.lines terminal_place l)) is ∙ seen-ported old new line port at listened in
-      subst (λ (r : Replied). Does (listen_with r terminal_place port live) (Ok Go) (standing 0 (seen (beside watch keys files new) whole (with_line m terminal_place after))) tells text text) (sym said)
-      (subst (λ (ls : List (LineOf Peer)). Does (listen_with (replied Quiet (ahead_of new.told whole)) terminal_place port live) (Ok Go) (standing 0 (record live { lines = ls; ahead = ahead_of new.told whole })) tells text text) (sym lines)
-      (refl, goes-said (record live { lines = ported terminal_place (Some port) live.lines; ahead = ahead_of new.told whole }) tells text))
-  attached old new line after port (Err listen.Failed) at is listened first =
-      let live = seen (beside watch keys files old) whole m in
-      let said = (listened.told refl).gives whole first in
-      let lines = ap (λ (l : LineOf ℕ). map (seen_line new) (slice_set m.lines terminal_place l)) is ∙ ap (map (seen_line new)) (set-same terminal_place m.lines line at) ∙ seen-still old new m.lines listened.behind in
-      subst (λ (r : Replied). Does (listen_with r terminal_place port live) (Err PortFailed) (standing 0 (seen (beside watch keys files new) whole (with_line m terminal_place after))) tells text text) (sym said)
-      (subst (λ (ls : List (LineOf Peer)). Does (listen_with (replied Failed (ahead_of new.told whole)) terminal_place port live) (Err PortFailed) (standing 0 (record live { lines = ls; ahead = ahead_of new.told whole })) tells text text) (sym lines)
-      (refl, refused-said PortFailed (record live { ahead = ahead_of new.told whole }) tells text))
-  attached old new line after port (Err listen.OutOfMemory) at is listened first = tt
+    -- the lines are as they were
+    left-as : (ahead : Ahead) (after : List (LineOf ℕ)) → after ≡ m.lines → parties new ≡ parties old → ahead_of new.told whole ≡ ahead → left after ≡ record live { ahead = ahead }
+    left-as ahead after same behind is = λ i. record live { lines = (ap (map (seen_line new)) same ∙ seen-still old new m.lines behind) i; ahead = is i }
 
-  pub attach-does : (old new : LineState) (line after : LineOf ℕ) (port : ℕ) (answer : Answer) → slice_get m.lines terminal_place ≡ Some line
-      → attaches_by line.port (is_taken port m.lines) true port answer old line new after → IsFirst (record_in new.told) whole
-      → Does (attach_port_reply (seen (beside watch keys files old) whole m) port) answer (standing 0 (seen (beside watch keys files new) whole (with_line m terminal_place after))) tells text text
-  unfolding attach_port_reply
-  attach-does old new line after port answer at attaches first =
-      let live = seen (beside watch keys files old) whole m in
-      subst (λ (o : Option (LineOf Peer)). Does (attach_line o terminal_place port live) answer (standing 0 (seen (beside watch keys files new) whole (with_line m terminal_place after))) tells text text) (sym (terminal-at old m.lines (Some line) at))
-      (by line.port attaches)
+    -- what is still to come, once all ports are listened on, or one was not to be had
+    all-said : ListensEach true (rising row.count port) (Ok tt) old new → IsFirst (record_in new.told) whole
+        → listening_each (rising row.count port) (ahead_of old.told whole) ≡ replied Quiet (ahead_of new.told whole)
+    all-said each first = each-said (rising row.count port) old.told new.told whole (each.row.told refl) first
+
+    one-said : ListensEach true (rising row.count port) (Err listen.Failed) old new → IsFirst (record_in new.told) whole
+        → listening_each (rising row.count port) (ahead_of old.told whole) ≡ replied Failed (ahead_of new.told whole)
+    one-said each first =
+        let cut = each.row in
+        let chain = cut.told refl in
+        ap (λ (ports : List ℕ). listening_each ports (ahead_of old.told whole)) cut.parts
+        ∙ failed-said cut.before cut.behind cut.refused old.told chain.0 new.told whole chain.1.0 chain.1.1 first
+
+    listen-does : (result : Result (Unit {0}) ListenFault) (after : List (LineOf ℕ)) → after ≡ listened_lines row port result m.lines → ListensEach true (rising row.count port) result old new
+        → IsFirst (record_in new.told) whole
+        → Does (listen_with (listening_each (rising row.count port) live.ahead) row port live) (listened_answer result) (standing 0 (left after)) tells text text
+    listen-does (Ok x) after is each first =
+        let done = record live { lines = ported row port live.lines; ahead = ahead_of new.told whole } in
+        let shown : map (seen_line new) after ≡ ported row port live.lines =
+        ap (map (seen_line new)) is ∙ seen-ports new (row_from row.count (first_place row) port) m.lines ∙ ap (ported row port) (seen-still old new m.lines each.behind) in
+        let same : left after ≡ done = λ i. record live { lines = shown i; ahead = ahead_of new.told whole } in
+        subst (λ (r : Replied). Does (listen_with r row port live) (Ok Go) (standing 0 (left after)) tells text text) (sym (all-said each first))
+        (subst (λ (l : Live). Does (listen_with (replied Quiet (ahead_of new.told whole)) row port live) (Ok Go) (standing 0 l) tells text text) (sym same) (refl, goes-said done tells text))
+    listen-does (Err listen.Failed) after is each first =
+        let done = record live { ahead = ahead_of new.told whole } in
+        subst (λ (r : Replied). Does (listen_with r row port live) (Err PortFailed) (standing 0 (left after)) tells text text) (sym (one-said each first))
+        (subst (λ (l : Live). Does (listen_with (replied Failed (ahead_of new.told whole)) row port live) (Err PortFailed) (standing 0 l) tells text text)
+        (sym (left-as (ahead_of new.told whole) after is each.behind refl)) (refl, refused-said PortFailed done tells text))
+    listen-does (Err listen.OutOfMemory) after is each first = tt
+
+    pub attach-does : (answer : Answer) (after : List (LineOf ℕ)) → AttachesRow true row port answer old m.lines new after → IsFirst (record_in new.told) whole
+        → Does (attach_port_reply live kind port) answer (standing 0 (left after)) tells text text
+    unfolding attach_port_reply
+    attach-does answer after attaches first = by (attach_fault row port m.lines) refl attaches
+      where
+        by : (o : Option CommandFault) → attach_fault row port m.lines ≡ o → attaches_by o true row port answer old m.lines new after
+            → Does (unless_refused (attach_fault row port live.lines) (listen_with (listening_each (rising row.count port) live.ahead) row port live) live) answer (standing 0 (left after)) tells text text
+        by (Some fault) is refused =
+            let same : left after ≡ live =
+            (λ i. seen (beside watch keys files (refused.stay.outside i)) whole (record m { lines = refused.stay.lines i })) in
+            subst (λ (a : Answer). Does (unless_refused (attach_fault row port live.lines) (listen_with (listening_each (rising row.count port) live.ahead) row port live) live) a (standing 0 (left after)) tells text text)
+            (sym refused.answer_is)
+            (subst (λ (l : Live). Does (unless_refused (attach_fault row port live.lines) (listen_with (listening_each (rising row.count port) live.ahead) row port live) live) (Err fault) (standing 0 l) tells text text)
+            (sym same)
+            (refused-does fault (listen_with (listening_each (rising row.count port) live.ahead) row port live) live (attach_fault row port live.lines) (attach-seen old row m.lines port ∙ is)
+            (attach-each row port live.lines (λ (f : CommandFault). IsPlain (Err f)) tt tt tt tt)))
+        by None is tried =
+            goes-on (listen_with (listening_each (rising row.count port) live.ahead) row port live) answer live (left after) (attach_fault row port live.lines) (attach-seen old row m.lines port ∙ is)
+            (subst (λ (a : Answer). Does (listen_with (listening_each (rising row.count port) live.ahead) row port live) a (standing 0 (left after)) tells text text) (sym tried.answer_is)
+            (listen-does tried.result after tried.lines tried.listened first))
+
+-- ---- what ATTACH leaves of the outside, and why it was refused
+
+module _ (tells : Bool) (row : LineRow) (port : ℕ) (answer : Answer) (old new : LineState) (before after : List (LineOf ℕ)) where
+  pub attach-left : AttachesRow tells row port answer old before new after → (attach_fault row port before ≡ None → AreFree row.count (first_place row) before)
+      → LinesLeft tells old before new after
+  attach-left attaches free = by (attach_fault row port before) refl attaches
     where
-      live : Live
-      live = seen (beside watch keys files old) whole m
+      listened : (result : Result (Unit {0}) ListenFault) → attach_fault row port before ≡ None → after ≡ listened_lines row port result before
+          → ListensEach tells (rising row.count port) result old new → LinesLeft tells old before new after
+      listened (Ok x) none is each =
+          let asks = attach-asks row port before none in
+          let range = and_parts (nat_le 1 port) (nat_le (port + row.count) 65536) asks.1 in
+          subst (λ (ls : List (LineOf ℕ)). LinesLeft tells old before new ls) (sym is)
+          (left-row row.count (first_place row) port tells old new before (leb-true (first_place row + row.count) (length before) asks.0) (free none)
+          (leb-true 1 port range.0) asks.2 each)
+      listened (Err fault) none is each =
+          subst (λ (ls : List (LineOf ℕ)). LinesLeft tells old before new ls) (sym is)
+          (left-refused row.count port tells fault old new before (attach-asks row port before none).2 each)
 
-      live' : Live
-      live' = seen (beside watch keys files new) whole (with_line m terminal_place after)
+      by : (o : Option CommandFault) → attach_fault row port before ≡ o → attaches_by o tells row port answer old before new after → LinesLeft tells old before new after
+      by (Some fault) is refused =
+          subst (λ (s : LineState). LinesLeft tells old before s after) (sym refused.stay.outside)
+          (subst (λ (ls : List (LineOf ℕ)). LinesLeft tells old before old ls) (sym refused.stay.lines) (left-same tells old before))
+      by None is tried = listened tried.result is tried.lines tried.listened
 
-      free : (b : Bool) → free_by b true port answer old line new after
-          → Does (if b then refused PortTaken live else listen_with (listening live.ahead) terminal_place port live) answer (standing 0 live') tells text text
-      free true untried =
-          subst (λ (a : Answer). Does (refused PortTaken live) a (standing 0 live') tells text text) (sym untried.answer_is)
-          (subst (λ (l : Live). Does (refused PortTaken live) (Err PortTaken) (standing 0 l) tells text text) (sym (same-live old new line after at untried.line_is untried.lines_are))
-          (refl, refused-said PortTaken live tells text))
-      free false tried =
-          subst (λ (a : Answer). Does (listen_with (listening live.ahead) terminal_place port live) a (standing 0 live') tells text text) (sym tried.answer_is)
-          (attached old new line after port tried.result at tried.line_is tried.listened first)
+  tried-same : (result : Result (Unit {0}) ListenFault) → answer ≡ listened_answer result → after ≡ listened_lines row port result before → IsRefused answer → after ≡ before
+  tried-same (Ok x) is left refused = absurd (subst (λ (a : Answer). IsRefused a) is refused)
+  tried-same (Err fault) is left refused = left
 
-      in-range : (b : Bool) → ranged b (is_taken port m.lines) true port answer old line new after
-          → Does (if b then listen_free terminal_place port live else refused OutOfRange live) answer (standing 0 live') tells text text
-      in-range true attaches =
-          subst (λ (t : Bool). Does (if t then refused PortTaken live else listen_with (listening live.ahead) terminal_place port live) answer (standing 0 live') tells text text)
-          (sym (seen-taken old m.lines port)) (free (is_taken port m.lines) attaches)
-      in-range false untried =
-          subst (λ (a : Answer). Does (refused OutOfRange live) a (standing 0 live') tells text text) (sym untried.answer_is)
-          (subst (λ (l : Live). Does (refused OutOfRange live) (Err OutOfRange) (standing 0 l) tells text text) (sym (same-live old new line after at untried.line_is untried.lines_are))
-          (refl, refused-said OutOfRange live tells text))
-
-      by : (p : Option ℕ) → attaches_by p (is_taken port m.lines) true port answer old line new after
-          → Does (if is_some p then refused AlreadyAttached live else if is_port port then listen_free terminal_place port live else refused OutOfRange live) answer (standing 0 live') tells text text
-      by None attaches = in-range (is_port port) attaches
-      by (Some p) untried =
-          subst (λ (a : Answer). Does (refused AlreadyAttached live) a (standing 0 live') tells text text) (sym untried.answer_is)
-          (subst (λ (l : Live). Does (refused AlreadyAttached live) (Err AlreadyAttached) (standing 0 l) tells text text) (sym (same-live old new line after at untried.line_is untried.lines_are))
-          (refl, refused-said AlreadyAttached live tells text))
-
--- ---- what ATTACH leaves of the outside
-
-module _ (tells : Bool) (old new : LineState) (lines : List (LineOf ℕ)) (line after : LineOf ℕ) (port : ℕ) (answer : Answer) (at : slice_get lines terminal_place ≡ Some line) where
-  attach-untried : (is : Answer) → Untried answer is old line new after → LinesLeft tells old lines new (slice_set lines terminal_place after)
-  attach-untried is untried =
-      subst (λ (s : LineState). LinesLeft tells old lines s (slice_set lines terminal_place after)) (sym untried.lines_are)
-      (subst (λ (ls : List (LineOf ℕ)). LinesLeft tells old lines old ls) (sym (ap (λ (l : LineOf ℕ). slice_set lines terminal_place l) untried.line_is ∙ set-same terminal_place lines line at)) (left-same tells old lines))
-
-  attach-tried : line.port ≡ None → port ≢ 0 → is_taken port lines ≡ false → (result : Result (Unit {0}) ListenFault) → (OnOk result (IsSettled line)) → after ≡ listened_line port result line → IsListening tells port result old new
-      → LinesLeft tells old lines new (slice_set lines terminal_place after)
-  attach-tried none some free (Ok tt) settled is listened =
-      subst (λ (l : LineOf ℕ). LinesLeft tells old lines new (slice_set lines terminal_place l)) (sym is)
-      (left-listened terminal_place tells old new lines line port at listened none settled (apart-listened lines port some free))
-  attach-tried none some free (Err fault) settled is listened =
-      subst (λ (ls : List (LineOf ℕ)). LinesLeft tells old lines new ls) (sym (ap (slice_set lines terminal_place) is ∙ set-same terminal_place lines line at))
-      (left-unlistened tells old new lines port fault listened)
-
-  not-zero : is_port port ≡ true → port ≢ 0
-  not-zero is none = absurd (let low : is_port 0 ≡ true = subst (λ (n : ℕ). is_port n ≡ true) none is in cc)
-
-  on-ok : (result : Result (Unit {0}) ListenFault) → answer ≡ listened_answer result → OnOk answer (IsSettled line) → OnOk result (IsSettled line)
-  on-ok (Ok x) is settled = subst (λ (a : Answer). OnOk a (IsSettled line)) is settled
-  on-ok (Err fault) is settled = tt
-
-  pub attach-left : attaches_by line.port (is_taken port lines) tells port answer old line new after → OnOk answer (IsSettled line) → LinesLeft tells old lines new (slice_set lines terminal_place after)
-  attach-left attaches settled = by line.port refl attaches
+  pub attach-refused : AttachesRow tells row port answer old before new after → IsRefused answer → after ≡ before
+  attach-refused attaches refused = by (attach_fault row port before) attaches
     where
-      free : (b : Bool) → is_taken port lines ≡ b → port ≢ 0 → line.port ≡ None → free_by b tells port answer old line new after → LinesLeft tells old lines new (slice_set lines terminal_place after)
-      free true is some none untried = attach-untried (Err PortTaken) untried
-      free false is some none tried = attach-tried none some is tried.result (on-ok tried.result tried.answer_is settled) tried.line_is tried.listened
+      by : (o : Option CommandFault) → attaches_by o tells row port answer old before new after → after ≡ before
+      by (Some fault) stays = stays.stay.lines
+      by None tried = tried-same tried.result tried.answer_is tried.lines refused
 
-      in-range : (b : Bool) → is_port port ≡ b → line.port ≡ None → ranged b (is_taken port lines) tells port answer old line new after
-          → LinesLeft tells old lines new (slice_set lines terminal_place after)
-      in-range true is none attaches = free (is_taken port lines) refl (not-zero is) none attaches
-      in-range false is none untried = attach-untried (Err OutOfRange) untried
+  pub attach-sent : AttachesRow tells row port answer old before new after → new.sent ≡ old.sent
+  attach-sent attaches = by (attach_fault row port before) attaches
+    where
+      by : (o : Option CommandFault) → attaches_by o tells row port answer old before new after → new.sent ≡ old.sent
+      by (Some fault) stays = ap (λ (s : LineState). s.sent) stays.stay.outside
+      by None tried = tried.listened.sent
 
-      by : (p : Option ℕ) → line.port ≡ p → attaches_by p (is_taken port lines) tells port answer old line new after → LinesLeft tells old lines new (slice_set lines terminal_place after)
-      by None none attaches = in-range (is_port port) refl none attaches
-      by (Some p) has untried = attach-untried (Err AlreadyAttached) untried
+  -- want of memory comes only where ports are wanted that may be had
+  pub attach-unrefused : AttachesRow tells row port answer old before new after → answer ≡ Err OutOfMemory → attach_fault row port before ≡ None
+  attach-unrefused attaches want =
+      by (attach_fault row port before) attaches (attach-each row port before (λ (f : CommandFault). IsPlain (Err f)) tt tt tt tt)
+    where
+      by : (o : Option CommandFault) → attaches_by o tells row port answer old before new after → IfSome o (λ (f : CommandFault). IsPlain (Err f)) → o ≡ None
+      by (Some fault) stays plain = absurd (subst (λ (a : Answer). IsPlain a) (sym stays.answer_is ∙ want) plain)
+      by None tried plain = refl
 
--- ---- where they are refused, the machine is as it was
+  -- `No such name` is the answer just where it is the fault
+  pub attach-names : AttachesRow tells row port answer old before new after → (answer ≡ Err NoSuchName) ↔ (attach_fault row port before ≡ Some NoSuchName)
+  attach-names attaches = by (attach_fault row port before) attaches
+    where
+      listened : (result : Result (Unit {0}) ListenFault) → listened_answer result ≡ Err NoSuchName → ⊥
+      listened (Ok x) is = absurd (cc)
+      listened (Err listen.Failed) is = absurd (cc)
+      listened (Err listen.OutOfMemory) is = absurd (cc)
 
-set-as : (m : MachineState) (line after : LineOf ℕ) → slice_get m.lines terminal_place ≡ Some line → after ≡ line → with_line m terminal_place after ≡ m
-set-as m line after at same =
-    ap (λ (l : LineOf ℕ). with_line m terminal_place l) same ∙ ap (λ (ls : List (LineOf ℕ)). record m { lines = ls }) (set-same terminal_place m.lines line at)
+      by : (o : Option CommandFault) → attaches_by o tells row port answer old before new after → (answer ≡ Err NoSuchName) ↔ (o ≡ Some NoSuchName)
+      by (Some fault) stays = (
+        λ is. let both : Err fault ≡ Err NoSuchName = sym stays.answer_is ∙ is in let own : fault ≡ NoSuchName = cc in ap Some own,
+        λ is. let own : fault ≡ NoSuchName = cc in stays.answer_is ∙ ap Err own,
+      )
+      by None tried = (λ is. absurd (listened tried.result (sym tried.answer_is ∙ is)), λ is. absurd (cc))
+
+-- a listening that came to nothing is the cause of two answers
+pub attach-cause : (tells : Bool) (kind : Kind) (port : ℕ) (answer : Answer) (old new : LineState) (before after : List (LineOf ℕ)) → AttachesRow tells (row_for kind) port answer old before new after
+    → AttachCause tells kind port answer old new
+attach-cause tells kind port answer old new before after attaches =
+    by (attach_fault (row_for kind) port before) attaches
+    (attach-each (row_for kind) port before (λ (f : CommandFault). AttachCause tells kind port (Err f) old new) tt tt tt tt)
+  where
+    cause-of : (result : Result (Unit {0}) ListenFault) → ListensEach tells (rising (row_for kind).count port) result old new → AttachCause tells kind port (listened_answer result) old new
+    cause-of (Ok x) each = tt
+    cause-of (Err listen.Failed) each = each
+    cause-of (Err listen.OutOfMemory) each = each
+
+    by : (o : Option CommandFault) → attaches_by o tells (row_for kind) port answer old before new after → IfSome o (λ (f : CommandFault). AttachCause tells kind port (Err f) old new)
+        → AttachCause tells kind port answer old new
+    by (Some fault) stays own = subst (λ (a : Answer). AttachCause tells kind port a old new) (sym stays.answer_is) own
+    by None tried own = subst (λ (a : Answer). AttachCause tells kind port a old new) (sym tried.answer_is) (cause-of tried.result tried.listened)
+
+-- ---- where SET is refused, the machine is as it was
 
 needs-refused : (port : Option ℕ) (answer : Answer) → answer ≡ needs_port port → IsRefused answer → port ≡ None
 needs-refused None answer is refused = refl
 needs-refused (Some port) answer is refused = absurd (subst (λ (a : Answer). IsRefused a) is refused)
 
-pub close-refused : (m : MachineState) (line after : LineOf ℕ) (answer : Answer) → slice_get m.lines terminal_place ≡ Some line → answer ≡ needs_port line.port → after ≡ closed line → IsRefused answer
-    → with_line m terminal_place after ≡ m
-close-refused m line after answer at is left refused = set-as m line after at (left ∙ closed-none line (needs-refused line.port answer is refused))
-
 pub hang-refused : (m : MachineState) (line after : LineOf ℕ) (answer : Answer) → slice_get m.lines terminal_place ≡ Some line → answer ≡ needs_port line.port → after ≡ hung line → IsRefused answer
     → with_line m terminal_place after ≡ m
-hang-refused m line after answer at is left refused = set-as m line after at (left ∙ hung-none line (needs-refused line.port answer is refused))
-
-module _ (tells : Bool) (old new : LineState) (m : MachineState) (line after : LineOf ℕ) (port : ℕ) (answer : Answer) where
-  tried-same : (result : Result (Unit {0}) ListenFault) → answer ≡ listened_answer result → after ≡ listened_line port result line → IsRefused answer → after ≡ line
-  tried-same (Ok x) is left refused = absurd (subst (λ (a : Answer). IsRefused a) is refused)
-  tried-same (Err fault) is left refused = left
-
-  abbrev Unrefused : Type 0
-  Unrefused = (option_map (λ (l : LineOf ℕ). l.port) (terminal_line m.lines) ≡ Some None) × ((is_port port ≡ true) × (is_taken port m.lines ≡ false))
-
-  pub attach-refused : slice_get m.lines terminal_place ≡ Some line → attaches_by line.port (is_taken port m.lines) tells port answer old line new after → IsRefused answer → with_line m terminal_place after ≡ m
-  attach-refused at attaches refused = set-as m line after at (by line.port attaches)
-    where
-      free : (b : Bool) → free_by b tells port answer old line new after → after ≡ line
-      free true untried = untried.line_is
-      free false tried = tried-same tried.result tried.answer_is tried.line_is refused
-
-      in-range : (b : Bool) → ranged b (is_taken port m.lines) tells port answer old line new after → after ≡ line
-      in-range true attaches = free (is_taken port m.lines) attaches
-      in-range false untried = untried.line_is
-
-      by : (p : Option ℕ) → attaches_by p (is_taken port m.lines) tells port answer old line new after → after ≡ line
-      by None attaches = in-range (is_port port) attaches
-      by (Some p) untried = untried.line_is
-
-  pub attach-sent : attaches_by line.port (is_taken port m.lines) tells port answer old line new after → new.sent ≡ old.sent
-  attach-sent attaches = by line.port attaches
-    where
-      free : (b : Bool) → free_by b tells port answer old line new after → new.sent ≡ old.sent
-      free true untried = ap (λ (s : LineState). s.sent) untried.lines_are
-      free false tried = tried.listened.sent
-
-      in-range : (b : Bool) → ranged b (is_taken port m.lines) tells port answer old line new after → new.sent ≡ old.sent
-      in-range true attaches = free (is_taken port m.lines) attaches
-      in-range false untried = ap (λ (s : LineState). s.sent) untried.lines_are
-
-      by : (p : Option ℕ) → attaches_by p (is_taken port m.lines) tells port answer old line new after → new.sent ≡ old.sent
-      by None attaches = in-range (is_port port) attaches
-      by (Some p) untried = ap (λ (s : LineState). s.sent) untried.lines_are
-
-  cause-of : (result : Result (Unit {0}) ListenFault) → answer ≡ listened_answer result → IsListening tells port result old new → AttachCause tells answer old new
-  cause-of (Ok x) is listened = subst (λ (a : Answer). AttachCause tells a old new) (sym is) tt
-  cause-of (Err listen.Failed) is listened =
-      subst (λ (a : Answer). AttachCause tells a old new) (sym is)
-      (record { listens = listened.listens; stands = listened.stands; behind = listened.behind; sent = listened.sent; counted = listened.counted })
-  cause-of (Err listen.OutOfMemory) is listened =
-      subst (λ (a : Answer). AttachCause tells a old new) (sym is)
-      (record { listens = listened.listens; stands = listened.stands; behind = listened.behind; sent = listened.sent; counted = listened.counted }, listened.told)
-
-  pub attach-cause : attaches_by line.port (is_taken port m.lines) tells port answer old line new after → AttachCause tells answer old new
-  attach-cause attaches = by line.port attaches
-    where
-      free : (b : Bool) → free_by b tells port answer old line new after → AttachCause tells answer old new
-      free true untried = subst (λ (a : Answer). AttachCause tells a old new) (sym untried.answer_is) tt
-      free false tried = cause-of tried.result tried.answer_is tried.listened
-
-      in-range : (b : Bool) → ranged b (is_taken port m.lines) tells port answer old line new after → AttachCause tells answer old new
-      in-range true attaches = free (is_taken port m.lines) attaches
-      in-range false untried = subst (λ (a : Answer). AttachCause tells a old new) (sym untried.answer_is) tt
-
-      by : (p : Option ℕ) → attaches_by p (is_taken port m.lines) tells port answer old line new after → AttachCause tells answer old new
-      by None attaches = in-range (is_port port) attaches
-      by (Some p) untried = subst (λ (a : Answer). AttachCause tells a old new) (sym untried.answer_is) tt
-
-  -- want of memory comes only where a port within its range that no line has is wanted for a line that has none
-  pub attach-unrefused : slice_get m.lines terminal_place ≡ Some line → attaches_by line.port (is_taken port m.lines) tells port answer old line new after → answer ≡ Err OutOfMemory → Unrefused
-  attach-unrefused at attaches want = by line.port refl attaches
-    where
-      free : (b : Bool) → is_taken port m.lines ≡ b → is_port port ≡ true → line.port ≡ None → free_by b tells port answer old line new after → Unrefused
-      free true taken is none untried = absurd (let both : Err OutOfMemory ≡ Err PortTaken = sym want ∙ untried.answer_is in cc)
-      free false taken is none tried = (ap (option_map (λ (l : LineOf ℕ). l.port)) at ∙ ap Some none, (is, taken))
-
-      in-range : (b : Bool) → is_port port ≡ b → line.port ≡ None → ranged b (is_taken port m.lines) tells port answer old line new after → Unrefused
-      in-range true is none attaches = free (is_taken port m.lines) refl is none attaches
-      in-range false is none untried = absurd (let both : Err OutOfMemory ≡ Err OutOfRange = sym want ∙ untried.answer_is in cc)
-
-      by : (p : Option ℕ) → line.port ≡ p → attaches_by p (is_taken port m.lines) tells port answer old line new after → Unrefused
-      by None none attaches = in-range (is_port port) refl none attaches
-      by (Some p) has untried = absurd (let both : Err OutOfMemory ≡ Err AlreadyAttached = sym want ∙ untried.answer_is in cc)
+hang-refused m line after answer at is left refused =
+    ap (λ (l : LineOf ℕ). with_line m terminal_place l) (left ∙ hung-none line (needs-refused line.port answer is refused))
+    ∙ ap (λ (ls : List (LineOf ℕ)). record m { lines = ls }) (set-same terminal_place m.lines line at)

@@ -1,12 +1,16 @@
 -- What the commands do that work on files and lines of the host.
-use Rattle.std.specs.Prelude.{◌≡◌, ℕ, Bool, List, Ok, Err}
+use Rattle.std.specs.Prelude.{◌≡◌, ◌↔◌, ℕ, Bool, false, List, Some, Ok, Err}
 use Rattle.file_traits.specs.State.{FileState}
 use Rattle.host_lines.specs.State.{LineState}
 use Rattle.telnet_lines.specs.Line.{LineOf}
+use Rattle.unit_trait.specs.Calls.{UnitState}
+use Rattle.unit_trait.specs.declared.kind.Kind.{Kind}
+use Rattle.unit_trait.specs.declared.kind.Kind.TheVariants.{Qty}
 use Rattle.file_commands.specs.Notes.{CommandNote}
+use Rattle.nova_machine.specs.Machine.{has_multiplexer}
 use Rattle.scp_parser.specs.Command.{Request, Attach, AttachPort, Detach, Disconnect, Do, Exit, Load, Dump}
 use Rattle.command_session.specs.declared.next.Next.TheVariants.{Ran}
-use Rattle.command_session.specs.declared.fault.CommandFault.TheVariants.{Console}
+use Rattle.command_session.specs.declared.fault.CommandFault.TheVariants.{NoSuchName, Console}
 use Rattle.command_session.specs.Live.{Live, CommandState}
 use Rattle.command_session.specs.Reply.{Answer, Reply, goes}
 use Rattle.command_session.specs.FileEffects.{attach_reply, detach_one_or_all}
@@ -20,7 +24,7 @@ use Rattle.host_commands.specs.DoEffects.{do_reply}
 -- such a command, where these calls on files fail; of the others it is not said here
 abbrev pub host_effect : List CommandNote → Live → Request → Reply
 host_effect notes live (Attach option unit name) = attach_reply notes live option unit name
-host_effect notes live (AttachPort kind port) = attach_port_reply live port
+host_effect notes live (AttachPort kind port) = attach_port_reply live kind port
 host_effect notes live (Detach unit) = detach_one_or_all notes live unit
 host_effect notes live (Disconnect kind) = disconnect_reply live
 host_effect notes live (Do echo strict name arguments) = do_reply notes live echo strict name
@@ -55,9 +59,19 @@ HostWorks (Load name) answer s t old new = LoadWorks answer s.machine t.machine 
 HostWorks (Dump from to name) answer s t old new = (t.machine ≡ s.machine) × (t.watch ≡ s.watch)
 HostWorks request answer s t old new = Unit {0}
 
+-- `No such name` is the answer just where a machine has no multiplexer, if its ports are asked for
+abbrev pub missing_by : Kind → Answer → List UnitState → Type 0
+missing_by Qty answer units = (answer ≡ Err NoSuchName) ↔ (has_multiplexer units ≡ false)
+missing_by kind answer units = Unit {0}
+
+abbrev pub MissesUnit : Request → Answer → List UnitState → Type 0
+MissesUnit (AttachPort kind port) answer units = missing_by kind answer units
+MissesUnit (Detach (Some unit)) answer units = missing_by unit.kind answer units
+MissesUnit request answer units = Unit {0}
+
 -- what its answer says of the lines
 abbrev pub HostLines : Bool → Request → Answer → LineState → List (LineOf ℕ) → LineState → List (LineOf ℕ) → Type 0
-HostLines tells (AttachPort kind port) answer old before new after = AttachesPort tells port answer old before new after
+HostLines tells (AttachPort kind port) answer old before new after = AttachesPort tells kind port answer old before new after
 HostLines tells (Detach unit) answer old before new after = DetachesUnit unit answer old before new after
 HostLines tells (Disconnect kind) answer old before new after = Disconnects answer old before new after
 HostLines tells (Exit status) answer old before new after = ClosesAll answer old before new after

@@ -24,8 +24,9 @@ use host_lines::Lines;
 use unit_files::DetachFault;
 use unit_trait::Unit;
 
-/// The end of a session, with a status from 0 to 99; 0 where none is given. All units lose their files before it, and
-/// the second teletype its port; where what the disk holds can't be written back, the session does not end.
+/// The end of a session, with a status from 0 to 99; 0 where none is given. All units lose their files before it, then
+/// the second teletype its port, and then the multiplexer its ports; where what the disk holds can't be written back,
+/// the session does not end.
 #[tactic(auto, unfolding(command_session::specs::ExitEffects::exit_reply))]
 pub fn exit<U: Unit, F: Files, L: Lines>(
     session: &mut Session<U>,

@@ -18,7 +18,7 @@ ghost use Rattle.command_session.specs.LinesLeft.{LinesLeft, IsUnlistened, Liste
 ghost use Rattle.command_session.specs.Refusals.{IsUnrefused, IsMeasured};
 ghost use Rattle.command_session.specs.Answers.{AnswersByTables, CanAnswer};
 ghost use Rattle.command_session.specs.Doing.{Did, IsTold, IsRefused, KeepsAs, opens_of, MayWant, IsUndone, says_files, IsExitAnswer, AttachNote};
-ghost use Rattle.host_commands.specs.HostEffect.{host_effect, IsHosted, IsHostAnswer, HostWorks, HostLines};
+ghost use Rattle.host_commands.specs.HostEffect.{host_effect, IsHosted, IsHostAnswer, HostWorks, HostLines, MissesUnit};
 
 use crate::do_command::do_script;
 use crate::dump_command::dump_file;
@@ -33,7 +33,8 @@ use scp_parser::{Command, Verb};
 use std::alloc::Global;
 use unit_trait::Unit;
 
-/// Does a command that works on files and lines of the host. It prints nothing.
+/// Does a command that works on files and lines of the host: on the files of units, and on the ports of the lines of
+/// the second teletype and of the multiplexer. It prints nothing.
 #[tactic(auto, using(file_commands::proofs::OwnFiles::unused))]
 pub fn obey_host<U: Unit, F: Files, L: Lines>(
     alloc: Global,
@@ -64,6 +65,7 @@ pub fn obey_host<U: Unit, F: Files, L: Lines>(
     ensures listening { ListenCause L.tells command.now result (L.state lines.old) (L.state lines.new) }
     ensures line { HostLines L.tells command.now result (L.state lines.old) session.old.machine.lines
         (L.state lines.new) session.new.machine.lines }
+    ensures missing { MissesUnit command.now result session.old.machine.units }
     ensures undone { result ≡ Err OutOfMemory → (text : List ℕ) → IsUndone (nature command.now).flushes
         (nature command.now).reads_whole (says_files F.tells command.now) session.old session.new text text
         (F.state files.old) (F.state files.new) }
@@ -95,7 +97,7 @@ pub fn obey_host<U: Unit, F: Files, L: Lines>(
         Verb::Attach { option, unit, .. } => {
             attach(alloc, session, *option, *unit, command.file_name(), files)
         }
-        Verb::AttachPort { port, .. } => attach_port(alloc, session, *port, lines),
+        Verb::AttachPort { kind, port } => attach_port(alloc, session, *kind, *port, lines),
         Verb::Detach(unit) => detach_one_or_every(session, *unit, files, lines),
         Verb::Disconnect(_) => disconnect(session, lines),
         Verb::Exit(status) => exit(session, *status, files, lines),

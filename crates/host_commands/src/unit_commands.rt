@@ -25,6 +25,7 @@ ghost use Rattle.command_session.specs.FileWorks.{AttachWorks};
 ghost use Rattle.command_session.specs.DiskFile.{StaysInStep, StaysWhereAlone};
 ghost use Rattle.command_session.specs.LinesLeft.{LinesLeft};
 ghost use Rattle.command_session.specs.PortAnswers.{DetachesUnit, ClosesAll};
+ghost use Rattle.host_commands.specs.HostEffect.{MissesUnit};
 ghost use Rattle.command_session.specs.Doing.{Did, IsTold, OpensForUnit, Keeps, KeepsAs, IsUndone, IsOwn, IsPlain, IsExitAnswer, IsRefused, AttachNote};
 
 use crate::line_commands::detach_port;
@@ -110,8 +111,9 @@ pub fn attach<U: Unit, F: Files>(
     }
 }
 
-/// DETACH closes a unit's file, or gives up the port of the second teletype; where none is named, all units lose their
-/// files, and then the teletype its port. It prints nothing.
+/// DETACH closes a unit's file, or gives up the ports of the second teletype or of the multiplexer; where none is
+/// named, all units lose their files, then the teletype its port, and then the multiplexer its ports. It prints
+/// nothing.
 pub fn detach_one_or_every<U: Unit, F: Files, L: Lines>(
     session: &mut Session<U>,
     unit: Option<UnitName>,
@@ -145,6 +147,7 @@ pub fn detach_one_or_every<U: Unit, F: Files, L: Lines>(
     ensures unasked { IsRefused result → lines.new ≡ lines.old }
     ensures line { DetachesUnit unit result (L.state lines.old) session.old.machine.lines (L.state lines.new)
         session.new.machine.lines }
+    ensures missing { MissesUnit (Detach unit) result session.old.machine.units }
     ensures sent { (L.state lines.new).sent ≡ (L.state lines.old).sent }
     ensures keys { session.new.keys ≡ session.old.keys }
     ensures limit { session.new.limit ≡ session.old.limit }
@@ -156,7 +159,7 @@ pub fn detach_one_or_every<U: Unit, F: Files, L: Lines>(
 {
     match unit {
         None => detach_every(session, files, lines),
-        Some(unit) if is_terminal(unit) => detach_port(session, lines),
+        Some(unit) if is_terminal(unit) => detach_port(session, unit.kind, lines),
         Some(unit) => detach(session, unit, files),
     }
 }
@@ -213,7 +216,8 @@ fn detach<U: Unit, F: Files>(
     }
 }
 
-// DETACH ALL takes the files of all units away, and then the port of the second teletype.
+// DETACH ALL takes the files of all units away, then the port of the second teletype, and then those of the
+// multiplexer.
 #[tactic(auto, unfolding(command_session::specs::FileEffects::detach_all_reply))]
 fn detach_every<U: Unit, F: Files, L: Lines>(
     session: &mut Session<U>,

@@ -1,7 +1,9 @@
 // From the runtime to a session, one thing after another: its words, its units, its streams, its files and its lines.
 ghost use Rattle.std.specs.Prelude.{◌≡◌, ◌⊎◌, None, IfOk, map};
 ghost use Rattle.std.specs.Process.{exit_status};
-ghost use Rattle.command_words.specs.Standard.{IsStandard};
+ghost use Rattle.unit_trait.specs.declared.kind.Kind.TheVariants.{Qty as multiplexers};
+ghost use Rattle.unit_trait.specs.Row.{initial_unit};
+ghost use Rattle.command_words.specs.Standard.{IsStandard, standard_units as ten_units};
 ghost use Rattle.command_words.specs.Words.{options_of, texts_of};
 
 use crate::program::Program;
@@ -9,7 +11,7 @@ use crate::words::command_line;
 use file_traits::{Files, Sink, Source};
 use host_adapters::{PagedFiles, ReaderSource, RealFiles, RealLines, WriterSink};
 use observations::ExitStatus;
-use standard_units::{boxed_units, in_bus_order};
+use standard_units::{boxed_multiplexer, boxed_units, in_bus_order, with_multiplexer};
 use std::alloc::AllocError as OutOfMemory;
 use std::env::Env;
 use std::io;
@@ -87,6 +89,28 @@ where
         keyboard_1,
         teleprinter_1,
     )?;
+    let multiplexer: Box<dyn Unit> = boxed_multiplexer(rt.alloc())?;
+    with_terminals(program, rt, words, units, multiplexer)
+}
+
+/// Runs a session with these units, which are the standard ones without the multiplexer, and a multiplexer behind
+/// them.
+fn with_terminals<P: Program, U: Unit, R: Input + Print + AllocGlobal + System + Net>(
+    program: &P,
+    rt: &R,
+    words: &[String],
+    units: Vec<U>,
+    multiplexer: U,
+) -> Result<ExitCode, OutOfMemory>
+where
+    R::File: FileExt,
+    requires units { map U.unit_state units.items ≡ ten_units }
+    requires multiplexer { U.unit_state multiplexer ≡ initial_unit multiplexers }
+    ensures usage { IfOk result (λ code. exit_status code ≡ 100 → options_of (texts_of words.now) ≡ None) }
+    ensures bad_words { options_of (texts_of words.now) ≡ None
+        → IfOk result (λ code. (exit_status code ≡ 100) ⊎ (exit_status code ≡ 102)) }
+{
+    let units = with_multiplexer(units, multiplexer)?;
     with_streams(program, rt, words, units)
 }
 

@@ -39,49 +39,49 @@ pub fn session<U: Unit, C: Source, S: Sink, F: Files, L: Lines>(
 ) -> ExitCode
     requires { IsStandard (map U.unit_state units.items) }
     ensures ended { OfSomeEnding (λ machine faults. Promised
-        (InputTells (texts_of words.now) C.tells → ProgramTold F.tells L.tells (texts_of words.now)
+        (InputTells (texts_of words.now) C.tells → ProgramTold F.tells L.tells (map U.unit_state units.items) (texts_of words.now)
         (C.left input.old) (F.state files.old).files (L.state lines.old) → IsTrue S.tells
         → exit_status result ≢ 103
         → (whole : List LineAnswer) → IsFirst (record_in (L.state lines.new).told) whole
-        → SaysNoMore L.tells (texts_of words.now) (C.left input.old) (C.left input.new) (S.written output.old)
+        → SaysNoMore L.tells (map U.unit_state units.items) (texts_of words.now) (C.left input.old) (C.left input.new) (S.written output.old)
         (S.written output.new) (beyond (F.state files.old).files (L.state lines.old) whole)
         (beyond (F.state files.new).files (L.state lines.new) whole) (notes_said faults)
-        ⊎ IsOutcome (texts_of words.now) (C.left input.old) (C.left input.new) (S.written output.old)
+        ⊎ IsOutcome (map U.unit_state units.items) (texts_of words.now) (C.left input.old) (C.left input.new) (S.written output.old)
         (S.written output.new) (beyond (F.state files.old).files (L.state lines.old) whole)
         (beyond (F.state files.new).files (L.state lines.new) whole) (exit_status result) machine (notes_said faults))
-        (InputTells (texts_of words.now) C.tells → ProgramTold F.tells L.tells (texts_of words.now)
+        (InputTells (texts_of words.now) C.tells → ProgramTold F.tells L.tells (map U.unit_state units.items) (texts_of words.now)
         (C.left input.old) (F.state files.old).files (L.state lines.old) → IsTrue S.tells
         → exit_status result ≡ 103
         → (whole : List LineAnswer) → IsFirst (record_in (L.state lines.new).told) whole
-        → SaysNoMore L.tells (texts_of words.now) (C.left input.old) (C.left input.new) (S.written output.old)
+        → SaysNoMore L.tells (map U.unit_state units.items) (texts_of words.now) (C.left input.old) (C.left input.new) (S.written output.old)
         (S.written output.new) (beyond (F.state files.old).files (L.state lines.old) whole)
         (beyond (F.state files.new).files (L.state lines.new) whole) (notes_said faults)
-        ⊎ IsCutShort (texts_of words.now) (C.left input.old) (C.left input.new) (S.written output.old)
+        ⊎ IsCutShort (map U.unit_state units.items) (texts_of words.now) (C.left input.old) (C.left input.new) (S.written output.old)
         (S.written output.new) (beyond (F.state files.old).files (L.state lines.old) whole)
         (beyond (F.state files.new).files (L.state lines.new) whole) machine (notes_said faults))
-        (InputTells (texts_of words.now) C.tells → ProgramTold F.tells L.tells (texts_of words.now)
+        (InputTells (texts_of words.now) C.tells → ProgramTold F.tells L.tells (map U.unit_state units.items) (texts_of words.now)
         (C.left input.old) (F.state files.old).files (L.state lines.old) → IsTrue S.tells
         → exit_status result ≢ 103 → (Rose (S.fault_count output.old) (S.fault_count output.new) → ⊥)
         → (Rose (C.fault_count input.old) (C.fault_count input.new) → ⊥)
         → NoneFailed (F.state files.old) (F.state files.new)
         → (whole : List LineAnswer) → IsFirst (record_in (L.state lines.new).told) whole
-        → SaysNoMore L.tells (texts_of words.now) (C.left input.old) (C.left input.new) (S.written output.old)
+        → SaysNoMore L.tells (map U.unit_state units.items) (texts_of words.now) (C.left input.old) (C.left input.new) (S.written output.old)
         (S.written output.new) (beyond (F.state files.old).files (L.state lines.old) whole)
         (beyond (F.state files.new).files (L.state lines.new) whole) []
-        ⊎ IsComplete (texts_of words.now) (C.left input.old) (C.left input.new) (S.written output.old)
+        ⊎ IsComplete (map U.unit_state units.items) (texts_of words.now) (C.left input.old) (C.left input.new) (S.written output.old)
         (S.written output.new) (beyond (F.state files.old).files (L.state lines.old) whole)
         (beyond (F.state files.new).files (L.state lines.new) whole) (exit_status result) machine)
-        (InputTells (texts_of words.now) C.tells → ProgramTold F.tells L.tells (texts_of words.now)
+        (InputTells (texts_of words.now) C.tells → ProgramTold F.tells L.tells (map U.unit_state units.items) (texts_of words.now)
         (C.left input.old) (F.state files.old).files (L.state lines.old) → IsTrue S.tells
         → exit_status result ≢ 102 → exit_status result ≢ 103 → exit_status result ≢ 106
         → (whole : List LineAnswer) → IsFirst (record_in (L.state lines.new).told) whole
-        → SaysNoMore L.tells (texts_of words.now) (C.left input.old) (C.left input.new) (S.written output.old)
+        → SaysNoMore L.tells (map U.unit_state units.items) (texts_of words.now) (C.left input.old) (C.left input.new) (S.written output.old)
         (S.written output.new) (beyond (F.state files.old).files (L.state lines.old) whole)
         (beyond (F.state files.new).files (L.state lines.new) whole) (notes_said faults)
-        ⊎ ResumesSaved (texts_of words.now) (C.left input.old) (C.left input.new) (S.written output.old)
+        ⊎ ResumesSaved (map U.unit_state units.items) (texts_of words.now) (C.left input.old) (C.left input.new) (S.written output.old)
         (S.written output.new) (beyond (F.state files.old).files (L.state lines.old) whole)
         (beyond (F.state files.new).files (L.state lines.new) whole) (exit_status result) machine (notes_said faults))
-        (LinesAtEnd machine (L.state lines.old) (L.state lines.new))
+        (LinesAtEnd (map U.unit_state units.items) machine (L.state lines.old) (L.state lines.new))
         (exit_status result ≡ 101 → IsUnopened F.tells (texts_of words.now) faults (F.state files.old)
         (F.state files.new))
         (exit_status result ≡ 103 → AreMeasured F.tells (texts_of words.now) machine (F.state files.old)

@@ -6,10 +6,10 @@ use Rattle.fault_counts.specs.Faults.{raised, Rose}
 use Rattle.file_traits.specs.Lists.{NamedBytes}
 use Rattle.file_traits.specs.State.{FileState, Opened}
 use Rattle.file_traits.specs.declared.files.FileId.{FileId}
-use Rattle.host_lines.specs.Traffic.{Gone, Ahead, Answer as LineAnswer}
+use Rattle.host_lines.specs.Traffic.{Peer, Gone, Ahead, Answer as LineAnswer}
 use Rattle.host_lines.specs.Told.{ahead_of}
 use Rattle.host_lines.specs.State.{LineState}
-use Rattle.telnet_lines.specs.Line.{renamed}
+use Rattle.telnet_lines.specs.Line.{LineOf, unconnected, renamed}
 use Rattle.telnet_lines.specs.Joined.{seen_line}
 use Rattle.unit_trait.specs.declared.kind.UnitName.{UnitName}
 use Rattle.unit_trait.specs.Calls.{UnitState}
@@ -26,7 +26,7 @@ use Rattle.file_commands.specs.AllUnits.{IsUnwritten}
 use Rattle.file_commands.proofs.Emptying.{unwritten-since}
 use Rattle.expect_actions.specs.KeysFile.{Key}
 use Rattle.expect_actions.specs.Watch.{WatchState, empty_watch}
-use Rattle.nova_machine.specs.Machine.{MachineState, lines_for, new_machine, reset_machine, reset_devices}
+use Rattle.nova_machine.specs.Machine.{MachineState, line_count, lines_for, new_machine, reset_machine, reset_devices}
 use Rattle.nova_machine.specs.Seen.{seen, beside, erased, attached_in}
 use Rattle.nova_machine.specs.Comes.{Output, output}
 use Rattle.state_transfer.specs.SavedValid.{AreStandard}
@@ -39,7 +39,7 @@ use Rattle.scp_script.specs.Loop.{IsExitStatus, FinishCause, AreKept, KeptCause,
 use Rattle.scp_script.specs.declared.perform_session.Opening.{Opening}
 use Rattle.scp_script.specs.Perform.{beginning, beginning_with, IsSession, RunsShort, IsPerformed, Performed}
 use Rattle.command_words.specs.declared.options.Options.{Options}
-use Rattle.command_words.specs.Standard.{IsStandard, standard_units}
+use Rattle.command_words.specs.Standard.{IsStandard}
 use Rattle.session_texts.specs.Actions.{texts_of as waiting_texts}
 use Rattle.command_words.specs.Words.{options_of}
 use Rattle.program_start.specs.Workload.{with_workload}
@@ -52,6 +52,7 @@ use Rattle.program_start.specs.declared.word_files.Refusal.TheVariants.{Unopened
 use Rattle.program_start.specs.declared.word_files.Refusal.TheVariants as refusal
 use Rattle.nova_top.specs.Program.{OpensAs, script_text}
 use Rattle.nova_top.proofs.OutsideLemmas.{refused-outcome, session-outcome, complete}
+use Rattle.nova_top.proofs.PortLemmas.{lines-by-kinds}
 
 -- ---- a new machine has no file
 
@@ -71,13 +72,14 @@ new-slots None units = refl
 new-slots (Some number) units = refl
 
 -- a new machine of the standard units has their kinds
-new-kinds : (workload : Option ℕ) (units : List UnitState) → kinds_of (with_workload workload (new_machine units)).units ≡ kinds_of units
+pub new-kinds : (workload : Option ℕ) (units : List UnitState) → kinds_of (with_workload workload (new_machine units)).units ≡ kinds_of units
 unfolding new_machine reset_machine reset_devices
 new-kinds None units = reset-kinds units
 new-kinds (Some number) units = reset-kinds units
 
 pub new-standard : (workload : Option ℕ) (units : List UnitState) → IsStandard units → AreStandard (with_workload workload (new_machine units)).units
-new-standard workload units is = inl (new-kinds workload units ∙ ap kinds_of is)
+new-standard workload units (inl is) = inl (new-kinds workload units ∙ ap kinds_of is)
+new-standard workload units (inr is) = inr (new-kinds workload units ∙ ap kinds_of is)
 
 no-closing : (workload : Option ℕ) (units : List UnitState) (live : Live) (n : CommandNote) → live.machine ≡ erased (with_workload workload (new_machine units)) → IsLate live n → ⊥
 no-closing workload units live n new closing =
@@ -90,21 +92,21 @@ no-behind workload units live [] new come = refl
 no-behind workload units live (n ∷ behind) new come = absurd (no-closing workload units live n new come.0)
 
 -- so no closing comes behind its start, and the notes are those of its commands
-pub follows : (words : List (List ℕ)) (options : Options) (keys : List Key) (script : Option (List ℕ)) (files : List NamedBytes) (ahead : Ahead) (input : List ℕ) (own : List Note)
-    → MayFollow (opening words options keys script files ahead input []).spent (opening words options keys script files ahead input []).live own → Follow 0 own
+pub follows : (units : List UnitState) (words : List (List ℕ)) (options : Options) (keys : List Key) (script : Option (List ℕ)) (files : List NamedBytes) (ahead : Ahead) (input : List ℕ) (own : List Note)
+    → MayFollow (opening units words options keys script files ahead input []).spent (opening units words options keys script files ahead input []).live own → Follow 0 own
 unfolding session_with
-follows words options keys script files ahead input own h =
-    let none = no-behind options.workload standard_units (opening words options keys script files ahead input []).live h.behind refl h.closings in
+follows units words options keys script files ahead input own h =
+    let none = no-behind options.workload units (opening units words options keys script files ahead input []).live h.behind refl h.closings in
     subst (λ (n : List Note). Follow 0 n) (sym (h.are ∙ ap (λ (b : List CommandNote). numbered 0 b ++ h.later) none)) h.follows
 
 -- ---- what stands before the first line
 
 -- A session that is begun: with a new machine, in whose memory a workload may be, with nothing watched, with keys and a script of which the notes so far are all that was used, and
 -- opened as the words say.
-pub record Begun (Told : Type 0) (words : List (List ℕ)) (options : Options) (s : CommandState) (o : Opening) (old new : FileState) : Type 0 where
+pub record Begun (Told : Type 0) (units : List UnitState) (words : List (List ℕ)) (options : Options) (s : CommandState) (o : Opening) (old new : FileState) : Type 0 where
   pub command : s.command ≡ 0
   pub limit : s.limit ≡ options.limit
-  pub machine : s.machine ≡ with_workload options.workload (new_machine standard_units)
+  pub machine : s.machine ≡ with_workload options.workload (new_machine units)
   pub watch : s.watch ≡ empty_watch
   pub open_ : AllOpen s.machine.slots new.opened
   pub around : Around s.machine.slots old.opened new.opened
@@ -130,17 +132,17 @@ workload-slots None m = refl
 workload-slots (Some number) m = refl
 
 -- with what the files of the words say, and its workload
-pub begun-files : (Told : Type 0) (words : List (List ℕ)) (options : Options) (units : List UnitState) (i s : CommandState) (m : MachineState) (keys : List Key) (o : Opening) (notes : List FaultNote) (spare : ℕ) (old new : FileState)
+pub begun-files : (Told : Type 0) (units : List UnitState) (words : List (List ℕ)) (options : Options) (i s : CommandState) (m : MachineState) (keys : List Key) (o : Opening) (notes : List FaultNote) (spare : ℕ) (old new : FileState)
     → Made units options s → i ≡ s → m ≡ with_workload options.workload i.machine → (Told → StartsWith words options old.files (notes_said notes) (Begins options keys (script_text o))) → OpensAs words options o
     → (Told → new.files ≡ old.files) → new.opened ≡ old.opened → AddsNoted [] notes old new
-    → Begun Told words options (record { machine = m; watch = i.watch; keys = keys; limit = i.limit; notes = notes; command = i.command; spare = spare }) o old new
-begun-files Told words options units i s m keys o notes spare old new made same filled starts opens files opened keeps =
+    → Begun Told units words options (record { machine = m; watch = i.watch; keys = keys; limit = i.limit; notes = notes; command = i.command; spare = spare }) o old new
+begun-files Told units words options i s m keys o notes spare old new made same filled starts opens files opened keeps =
     let whole : m ≡ with_workload options.workload s.machine = filled ∙ ap (λ (u : CommandState). with_workload options.workload u.machine) same in
     let slots : s.machine.slots ≡ m.slots = sym (workload-slots options.workload s.machine) ∙ ap (λ (x : MachineState). x.slots) (sym whole) in
     record {
       command = ap (λ (u : CommandState). u.command) same ∙ made.command;
       limit = ap (λ (u : CommandState). u.limit) same ∙ made.limit;
-      machine = whole ∙ ap (with_workload options.workload) (made.machine ∙ ap new_machine made.standard);
+      machine = whole ∙ ap (with_workload options.workload) made.machine;
       watch = ap (λ (u : CommandState). u.watch) same ∙ made.watch;
       open_ = subst (λ (h : List (Option Held)). AllOpen h new.opened) slots (made.open_ new.opened);
       around = subst (λ (h : List (Option Held)). Around h old.opened new.opened) slots (subst (λ (o : List Opened). Around s.machine.slots old.opened o) (sym opened) (made.around old.opened));
@@ -153,26 +155,32 @@ begun-files Told words options units i s m keys o notes spare old new made same 
 -- ---- a session from where it begins
 
 -- nobody is behind a line of a new machine, which has no port
-first-lines : (workload : Option ℕ) (s : LineState) → map (seen_line s) (with_workload workload (new_machine standard_units)).lines ≡ map (renamed (λ _. Gone)) (with_workload workload (new_machine standard_units)).lines
+nobody-seen : (s : LineState) (n : ℕ) → map (seen_line s) (replicate {A = LineOf ℕ} n (unconnected None)) ≡ map (renamed (λ _. Gone)) (replicate {A = LineOf ℕ} n (unconnected None))
+nobody-seen s zero = refl
+nobody-seen s (suc n) = ap (λ (l : List (LineOf Peer)). unconnected None ∷ l) (nobody-seen s n)
+
+first-lines : (workload : Option ℕ) (units : List UnitState) (s : LineState) → map (seen_line s) (with_workload workload (new_machine units)).lines ≡ map (renamed (λ _. Gone)) (with_workload workload (new_machine units)).lines
 unfolding new_machine reset_machine reset_devices
-first-lines None s = refl
-first-lines (Some number) s = refl
+first-lines None units s = nobody-seen s (suc (line_count units))
+first-lines (Some number) units s = nobody-seen s (suc (line_count units))
 
-own-lines : (workload : Option ℕ) → (with_workload workload (new_machine standard_units)).lines ≡ lines_for standard_units
+own-lines : (workload : Option ℕ) (units : List UnitState) → (with_workload workload (new_machine units)).lines ≡ lines_for units
 unfolding new_machine reset_machine reset_devices
-own-lines None = refl
-own-lines (Some number) = refl
+own-lines None units = refl
+own-lines (Some number) units = refl
 
-pub begun-lines : (Told : Type 0) (words : List (List ℕ)) (options : Options) (s : CommandState) (o : Opening) (old mid : FileState) → Begun Told words options s o old mid
-    → s.machine.lines ≡ lines_for standard_units
-begun-lines Told words options s o old mid begun = ap (λ (m : MachineState). m.lines) begun.machine ∙ own-lines options.workload
+pub begun-lines : (Told : Type 0) (units : List UnitState) (words : List (List ℕ)) (options : Options) (s : CommandState) (o : Opening) (old mid : FileState) → Begun Told units words options s o old mid
+    → s.machine.lines ≡ lines_for s.machine.units
+begun-lines Told units words options s o old mid begun =
+    let kinds = ap (λ (m : MachineState). kinds_of m.units) begun.machine ∙ new-kinds options.workload units in
+    ap (λ (m : MachineState). m.lines) begun.machine ∙ own-lines options.workload units ∙ sym (lines-by-kinds s.machine.units units kinds)
 
-pub same-start : (Told : Type 0) (words : List (List ℕ)) (options : Options) (s : CommandState) (o : Opening) (old mid : FileState) (lines : LineState) (whole : List LineAnswer) (input : List ℕ) (notes : List Note)
-    → Begun Told words options s o old mid → Told
-    → beginning s (beyond mid.files lines whole) o input notes ≡ opening words options s.keys (script_text o) old.files (ahead_of lines.told whole) input notes
+pub same-start : (Told : Type 0) (units : List UnitState) (words : List (List ℕ)) (options : Options) (s : CommandState) (o : Opening) (old mid : FileState) (lines : LineState) (whole : List LineAnswer) (input : List ℕ) (notes : List Note)
+    → Begun Told units words options s o old mid → Told
+    → beginning s (beyond mid.files lines whole) o input notes ≡ opening units words options s.keys (script_text o) old.files (ahead_of lines.told whole) input notes
 unfolding beginning beginning_with session_with
-same-start Told words options s o old mid lines whole input notes begun told =
-    let seen_lines = ap (λ (m : MachineState). map (seen_line lines) m.lines) begun.machine ∙ first-lines options.workload lines in
+same-start Told units words options s o old mid lines whole input notes begun told =
+    let seen_lines = ap (λ (m : MachineState). map (seen_line lines) m.lines) begun.machine ∙ first-lines options.workload units lines in
     λ i. record {
       live = record {
         machine = erased (begun.machine i);
@@ -227,13 +235,13 @@ performed-short start Input live left before after small s h = absurd (omega (ar
 performed-short start OutOfMemory live left before after small s h = h
 
 -- the session that was begun is the one that the definition opens
-at-opening : (Told : Type 0) (words : List (List ℕ)) (options : Options) (s : CommandState) (o : Opening) (old mid : FileState) (lines : LineState) (whole : List LineAnswer) (input left : List ℕ) (before after : Output) (finish : Finish) (live : Live) (notes' : List Note)
-    → Begun Told words options s o old mid → Told
+at-opening : (Told : Type 0) (units : List UnitState) (words : List (List ℕ)) (options : Options) (s : CommandState) (o : Opening) (old mid : FileState) (lines : LineState) (whole : List LineAnswer) (input left : List ℕ) (before after : Output) (finish : Finish) (live : Live) (notes' : List Note)
+    → Begun Told units words options s o old mid → Told
     → Performed (λ (n : List Note). beginning s (beyond mid.files lines whole) o input n) finish live left before after (notes_said s.notes) notes'
-    → Performed (λ (n : List Note). opening words options s.keys (script_text o) old.files (ahead_of lines.told whole) input n) finish live left before after (notes_said s.notes) notes'
-at-opening Told words options s o old mid lines whole input left before after finish live notes' begun told p =
+    → Performed (λ (n : List Note). opening units words options s.keys (script_text o) old.files (ahead_of lines.told whole) input n) finish live left before after (notes_said s.notes) notes'
+at-opening Told units words options s o old mid lines whole input left before after finish live notes' begun told p =
     let by_start : (List Note → Session) → Type 0 = λ start. Performed start finish live left before after (notes_said s.notes) notes' in
-    subst by_start (λ i (n : List Note). same-start Told words options s o old mid lines whole input n begun told i) p
+    subst by_start (λ i (n : List Note). same-start Told units words options s o old mid lines whole input n begun told i) p
 
 -- What a session came to that was begun with those files, and with what stands around it, to what stands around it now.
 abbrev pub CameTo : CommandState → Opening → FileState → Beyond → Beyond → List ℕ → List ℕ → List ℕ → List ℕ → Finish → WatchState → MachineState → List Note → Type 0
@@ -241,34 +249,34 @@ CameTo s o mid old new input left before after finish watch now notes' =
     Performed (λ (n : List Note). beginning s (beyond mid.files old.lines old.whole) o input n) finish (seen (beside watch s.keys new.files new.lines) new.whole now) left
     (output before old.lines.sent) (output after new.lines.sent) (notes_said s.notes) notes'
 
-pub performed-outcome : (Told : Type 0) (words : List (List ℕ)) (options : Options) (s : CommandState) (o : Opening) (was mid : FileState) (lines : LineState) (whole : List LineAnswer) (new : Beyond) (input left before after : List ℕ) (finish : Finish) (watch : WatchState) (now : MachineState) (notes' : List Note)
-    → options_of words ≡ Some options → Begun Told words options s o was mid → Told → IsExitStatus finish → status_of finish ≢ 103
+pub performed-outcome : (Told : Type 0) (units : List UnitState) (words : List (List ℕ)) (options : Options) (s : CommandState) (o : Opening) (was mid : FileState) (lines : LineState) (whole : List LineAnswer) (new : Beyond) (input left before after : List ℕ) (finish : Finish) (watch : WatchState) (now : MachineState) (notes' : List Note)
+    → options_of words ≡ Some options → Begun Told units words options s o was mid → Told → IsExitStatus finish → status_of finish ≢ 103
     → CameTo s o mid (beyond was.files lines whole) new input left before after finish watch now notes'
-    → IsOutcome words input left before after (beyond was.files lines whole) new (status_of finish) (Some now) notes'
-performed-outcome Told words options s o was mid lines whole new input left before after finish watch now notes' chosen begun told small other came =
+    → IsOutcome units words input left before after (beyond was.files lines whole) new (status_of finish) (Some now) notes'
+performed-outcome Told units words options s o was mid lines whole new input left before after finish watch now notes' chosen begun told small other came =
     let old = beyond was.files lines whole in
     let ahead = ahead_of lines.told whole in
     let live = seen (beside watch s.keys new.files new.lines) new.whole now in
-    let p = at-opening Told words options s o was mid lines whole input left (output before lines.sent) (output after new.lines.sent) finish live notes' begun told came in
-    let follow = follows words options s.keys (script_text o) was.files ahead input p.own p.first in
+    let p = at-opening Told units words options s o was mid lines whole input left (output before lines.sent) (output after new.lines.sent) finish live notes' begun told came in
+    let follow = follows units words options s.keys (script_text o) was.files ahead input p.own p.first in
     let start = ap (λ (c : Option Options). start_of c words was.files (notes_said s.notes ++ p.own)) chosen ∙ begun.starts told p.own follow in
-    let session = performed-session (opening words options s.keys (script_text o) was.files ahead input p.own) finish live left (output before lines.sent) (output after new.lines.sent) other p.is in
-    subst (λ (n : List Note). IsOutcome words input left before after old new (status_of finish) (Some now) n) (sym p.kept)
-    (session-outcome words options s.keys s.keys (script_text o) input left before after old new finish watch now (notes_said s.notes ++ p.own) p.own (length (notes_said s.notes)) start
+    let session = performed-session (opening units words options s.keys (script_text o) was.files ahead input p.own) finish live left (output before lines.sent) (output after new.lines.sent) other p.is in
+    subst (λ (n : List Note). IsOutcome units words input left before after old new (status_of finish) (Some now) n) (sym p.kept)
+    (session-outcome units words options s.keys s.keys (script_text o) input left before after old new finish watch now (notes_said s.notes ++ p.own) p.own (length (notes_said s.notes)) start
     (drop-append_seam (notes_said s.notes) p.own) small session)
 
-pub performed-cut : (Told : Type 0) (words : List (List ℕ)) (options : Options) (s : CommandState) (o : Opening) (was mid : FileState) (lines : LineState) (whole : List LineAnswer) (new : Beyond) (input left before after : List ℕ) (finish : Finish) (watch : WatchState) (now : MachineState) (notes' : List Note)
-    → options_of words ≡ Some options → Begun Told words options s o was mid → Told → IsExitStatus finish → status_of finish ≡ 103
+pub performed-cut : (Told : Type 0) (units : List UnitState) (words : List (List ℕ)) (options : Options) (s : CommandState) (o : Opening) (was mid : FileState) (lines : LineState) (whole : List LineAnswer) (new : Beyond) (input left before after : List ℕ) (finish : Finish) (watch : WatchState) (now : MachineState) (notes' : List Note)
+    → options_of words ≡ Some options → Begun Told units words options s o was mid → Told → IsExitStatus finish → status_of finish ≡ 103
     → CameTo s o mid (beyond was.files lines whole) new input left before after finish watch now notes'
-    → IsCutShort words input left before after (beyond was.files lines whole) new (Some now) notes'
-performed-cut Told words options s o was mid lines whole new input left before after finish watch now notes' chosen begun told small memory came =
+    → IsCutShort units words input left before after (beyond was.files lines whole) new (Some now) notes'
+performed-cut Told units words options s o was mid lines whole new input left before after finish watch now notes' chosen begun told small memory came =
     let old = beyond was.files lines whole in
     let ahead = ahead_of lines.told whole in
     let live = seen (beside watch s.keys new.files new.lines) new.whole now in
-    let p = at-opening Told words options s o was mid lines whole input left (output before lines.sent) (output after new.lines.sent) finish live notes' begun told came in
-    let follow = follows words options s.keys (script_text o) was.files ahead input p.own p.first in
-    let short = performed-short (opening words options s.keys (script_text o) was.files ahead input p.own) finish live left (output before lines.sent) (output after new.lines.sent) small memory p.is in
-    subst (λ (n : List Note). IsCutShort words input left before after old new (Some now) n) (sym p.kept)
+    let p = at-opening Told units words options s o was mid lines whole input left (output before lines.sent) (output after new.lines.sent) finish live notes' begun told came in
+    let follow = follows units words options s.keys (script_text o) was.files ahead input p.own p.first in
+    let short = performed-short (opening units words options s.keys (script_text o) was.files ahead input p.own) finish live left (output before lines.sent) (output after new.lines.sent) small memory p.is in
+    subst (λ (n : List Note). IsCutShort units words input left before after old new (Some now) n) (sym p.kept)
     (record {
       options = options;
       words_are = chosen;
@@ -279,29 +287,29 @@ performed-cut Told words options s o was mid lines whole new input left before a
         starts = begun.starts told p.own follow;
         live = live;
         is = refl;
-        short = subst (λ (n : List Note). RunsShort (opening words options s.keys (script_text o) was.files ahead input n) live left (output before lines.sent) (output after new.lines.sent))
+        short = subst (λ (n : List Note). RunsShort (opening units words options s.keys (script_text o) was.files ahead input n) live left (output before lines.sent) (output after new.lines.sent))
             (sym (drop-append_seam (notes_said s.notes) p.own)) short;
       });
     })
 
 -- the same at the names of the code
-pub session-answer : (Told : Type 0) (words : List (List ℕ)) (options : Options) (s : CommandState) (o : Opening) (was mid : FileState) (lines : LineState) (whole : List LineAnswer) (new : Beyond) (input left before after : List ℕ) (finish : Finish) (watch : WatchState) (now : MachineState) (status : ℕ) (machine : Option MachineState) (notes' : List Note)
-    → options_of words ≡ Some options → Begun Told words options s o was mid → Told → IsExitStatus finish → status ≡ status_of finish → machine ≡ Some now → status ≢ 103
+pub session-answer : (Told : Type 0) (units : List UnitState) (words : List (List ℕ)) (options : Options) (s : CommandState) (o : Opening) (was mid : FileState) (lines : LineState) (whole : List LineAnswer) (new : Beyond) (input left before after : List ℕ) (finish : Finish) (watch : WatchState) (now : MachineState) (status : ℕ) (machine : Option MachineState) (notes' : List Note)
+    → options_of words ≡ Some options → Begun Told units words options s o was mid → Told → IsExitStatus finish → status ≡ status_of finish → machine ≡ Some now → status ≢ 103
     → CameTo s o mid (beyond was.files lines whole) new input left before after finish watch now notes'
-    → IsOutcome words input left before after (beyond was.files lines whole) new status machine notes'
-session-answer Told words options s o was mid lines whole new input left before after finish watch now status machine notes' chosen begun told small is there other came =
+    → IsOutcome units words input left before after (beyond was.files lines whole) new status machine notes'
+session-answer Told units words options s o was mid lines whole new input left before after finish watch now status machine notes' chosen begun told small is there other came =
     let old = beyond was.files lines whole in
-    subst (λ (m : Option MachineState). IsOutcome words input left before after old new status m notes') (sym there)
-    (subst (λ (n : ℕ). IsOutcome words input left before after old new n (Some now) notes') (sym is)
-    (performed-outcome Told words options s o was mid lines whole new input left before after finish watch now notes' chosen begun told small (λ e. other (is ∙ e)) came))
+    subst (λ (m : Option MachineState). IsOutcome units words input left before after old new status m notes') (sym there)
+    (subst (λ (n : ℕ). IsOutcome units words input left before after old new n (Some now) notes') (sym is)
+    (performed-outcome Told units words options s o was mid lines whole new input left before after finish watch now notes' chosen begun told small (λ e. other (is ∙ e)) came))
 
-pub memory-answer : (Told : Type 0) (words : List (List ℕ)) (options : Options) (s : CommandState) (o : Opening) (was mid : FileState) (lines : LineState) (whole : List LineAnswer) (new : Beyond) (input left before after : List ℕ) (finish : Finish) (watch : WatchState) (now : MachineState) (status : ℕ) (machine : Option MachineState) (notes' : List Note)
-    → options_of words ≡ Some options → Begun Told words options s o was mid → Told → IsExitStatus finish → status ≡ status_of finish → machine ≡ Some now → status ≡ 103
+pub memory-answer : (Told : Type 0) (units : List UnitState) (words : List (List ℕ)) (options : Options) (s : CommandState) (o : Opening) (was mid : FileState) (lines : LineState) (whole : List LineAnswer) (new : Beyond) (input left before after : List ℕ) (finish : Finish) (watch : WatchState) (now : MachineState) (status : ℕ) (machine : Option MachineState) (notes' : List Note)
+    → options_of words ≡ Some options → Begun Told units words options s o was mid → Told → IsExitStatus finish → status ≡ status_of finish → machine ≡ Some now → status ≡ 103
     → CameTo s o mid (beyond was.files lines whole) new input left before after finish watch now notes'
-    → IsCutShort words input left before after (beyond was.files lines whole) new machine notes'
-memory-answer Told words options s o was mid lines whole new input left before after finish watch now status machine notes' chosen begun told small is there memory came =
-    subst (λ (m : Option MachineState). IsCutShort words input left before after (beyond was.files lines whole) new m notes') (sym there)
-    (performed-cut Told words options s o was mid lines whole new input left before after finish watch now notes' chosen begun told small (sym is ∙ memory) came)
+    → IsCutShort units words input left before after (beyond was.files lines whole) new machine notes'
+memory-answer Told units words options s o was mid lines whole new input left before after finish watch now status machine notes' chosen begun told small is there memory came =
+    subst (λ (m : Option MachineState). IsCutShort units words input left before after (beyond was.files lines whole) new m notes') (sym there)
+    (performed-cut Told units words options s o was mid lines whole new input left before after finish watch now notes' chosen begun told small (sym is ∙ memory) came)
 
 -- ---- causes
 
@@ -402,22 +410,22 @@ refused-status there status sink sink_now (inr h) a = absurd (a (rose sink sink_
 
 -- ---- a file that is refused
 
-refused-at : (words : List (List ℕ)) (options : Options) (input before after : List ℕ) (old new : Beyond) (status_there status : ℕ) (text : List ℕ) (machine : Option MachineState) (kept : List Note)
+refused-at : (units : List UnitState) (words : List (List ℕ)) (options : Options) (input before after : List ℕ) (old new : Beyond) (status_there status : ℕ) (text : List ℕ) (machine : Option MachineState) (kept : List Note)
     → options_of words ≡ Some options → StartsWith words options old.files kept (Refused status_there text) → machine ≡ None → new ≡ old → status_there ≢ 106
-    → IsRefused status_there text status before after → IsOutcome words input input before after old new status machine kept
-refused-at words options input before after old new status_there status text machine kept chosen starts none same other refused =
+    → IsRefused status_there text status before after → IsOutcome units words input input before after old new status machine kept
+refused-at units words options input before after old new status_there status text machine kept chosen starts none same other refused =
     let start = ap (λ (o : Option Options). start_of o words old.files kept) chosen
     ∙ ap (λ (n : List Note). start_of (Some options) words old.files n) (sym (append-nil kept)) ∙ starts [] tt in
-    refused-outcome words input before after old new status_there status text machine kept (length kept) start (drop-length kept) none same other refused
+    refused-outcome units words input before after old new status_there status text machine kept (length kept) start (drop-length kept) none same other refused
 
-files-refused : (words : List (List ℕ)) (options : Options) (input before after : List ℕ) (old new : Beyond) (refusal : Refusal) (status : ℕ) (machine : Option MachineState) (kept : List Note)
+files-refused : (units : List UnitState) (words : List (List ℕ)) (options : Options) (input before after : List ℕ) (old new : Beyond) (refusal : Refusal) (status : ℕ) (machine : Option MachineState) (kept : List Note)
     → options_of words ≡ Some options → IfSome (denial_of words refusal) (λ (d : Denial). StartsWith words options old.files kept (denied d)) → machine ≡ None → new ≡ old → status ≢ 103
-    → IsDenied (denial_of words refusal) status before after → IsOutcome words input input before after old new status machine kept
-files-refused words options input before after old new (Unopened place) status machine kept chosen starts none same other refused =
-    refused-at words options input before after old new 101 status _ machine kept chosen starts none same (λ e. omega (arith, e)) refused
-files-refused words options input before after old new (BadKeys place) status machine kept chosen starts none same other refused =
-    refused-at words options input before after old new 105 status _ machine kept chosen starts none same (λ e. omega (arith, e)) refused
-files-refused words options input before after old new refusal.OutOfMemory status machine kept chosen starts none same other refused = absurd (other refused.0)
+    → IsDenied (denial_of words refusal) status before after → IsOutcome units words input input before after old new status machine kept
+files-refused units words options input before after old new (Unopened place) status machine kept chosen starts none same other refused =
+    refused-at units words options input before after old new 101 status _ machine kept chosen starts none same (λ e. omega (arith, e)) refused
+files-refused units words options input before after old new (BadKeys place) status machine kept chosen starts none same other refused =
+    refused-at units words options input before after old new 105 status _ machine kept chosen starts none same (λ e. omega (arith, e)) refused
+files-refused units words options input before after old new refusal.OutOfMemory status machine kept chosen starts none same other refused = absurd (other refused.0)
 
 pub files-status : (words : List (List ℕ)) (refusal : Refusal) (status sink sink_now : ℕ) → DeniedCause (denial_of words refusal) status sink sink_now → (Rose sink sink_now → ⊥) → (status ≢ 102) × (status ≢ 106)
 files-status words (Unopened place) status sink sink_now cause quiet = let is = refused-status 101 status sink sink_now cause quiet in (λ s. omega (arith, is, s), λ s. omega (arith, is, s))
@@ -425,12 +433,12 @@ files-status words (BadKeys place) status sink sink_now cause quiet = let is = r
 files-status words refusal.OutOfMemory status sink sink_now cause quiet = let is = cause.0 in (λ s. omega (arith, is, s), λ s. omega (arith, is, s))
 
 -- the same at the names of the code
-pub files-answer : (words : List (List ℕ)) (options : Options) (input before after : List ℕ) (old new : Beyond) (refusal : Refusal) (status : ℕ) (machine : Option MachineState) (items items' : List FaultNote)
+pub files-answer : (units : List UnitState) (words : List (List ℕ)) (options : Options) (input before after : List ℕ) (old new : Beyond) (refusal : Refusal) (status : ℕ) (machine : Option MachineState) (items items' : List FaultNote)
     → options_of words ≡ Some options → IfSome (denial_of words refusal) (λ (d : Denial). StartsWith words options old.files (notes_said items) (denied d)) → machine ≡ None → new ≡ old → status ≢ 103
-    → IsDenied (denial_of words refusal) status before after → items' ≡ items → IsOutcome words input input before after old new status machine (notes_said items')
-files-answer words options input before after old new refusal status machine items items' chosen starts none same other refused same_items =
-    subst (λ (l : List FaultNote). IsOutcome words input input before after old new status machine (notes_said l)) (sym same_items)
-    (files-refused words options input before after old new refusal status machine (notes_said items) chosen starts none same other refused)
+    → IsDenied (denial_of words refusal) status before after → items' ≡ items → IsOutcome units words input input before after old new status machine (notes_said items')
+files-answer units words options input before after old new refusal status machine items items' chosen starts none same other refused same_items =
+    subst (λ (l : List FaultNote). IsOutcome units words input input before after old new status machine (notes_said l)) (sym same_items)
+    (files-refused units words options input before after old new refusal status machine (notes_said items) chosen starts none same other refused)
 
 -- whose fault it was
 denied-cause : (words : List (List ℕ)) (there status sink sink_now source : ℕ) → (there ≡ 101) ⊎ (there ≡ 105) → (there ≡ 101 → HasKeysFile words ⊎ HasScript words) → (there ≡ 105 → HasKeysFile words)
@@ -487,11 +495,11 @@ files-cause words options refusal.OutOfMemory status sink sink_now source chosen
     no-cause words status sink sink_now source (λ none. let both = sym chosen ∙ none in cc) denied
 
 -- words outside their grammar
-pub usage-answer : (words : List (List ℕ)) (input before after : List ℕ) (old : Beyond) (status : ℕ) (machine : Option MachineState) (items : List FaultNote) → options_of words ≡ None → machine ≡ None → items ≡ []
-    → IsRefused 100 usage_text status before after → IsOutcome words input input before after old old status machine (notes_said items)
-usage-answer words input before after old status machine items chosen none nothing refused =
+pub usage-answer : (units : List UnitState) (words : List (List ℕ)) (input before after : List ℕ) (old : Beyond) (status : ℕ) (machine : Option MachineState) (items : List FaultNote) → options_of words ≡ None → machine ≡ None → items ≡ []
+    → IsRefused 100 usage_text status before after → IsOutcome units words input input before after old old status machine (notes_said items)
+usage-answer units words input before after old status machine items chosen none nothing refused =
     let start = ap (λ (o : Option Options). start_of o words old.files (notes_said items)) chosen in
-    refused-outcome words input before after old old 100 status usage_text machine (notes_said items) 0 start (ap notes_said nothing) none refl (λ e. omega (arith, e)) refused
+    refused-outcome units words input before after old old 100 status usage_text machine (notes_said items) 0 start (ap notes_said nothing) none refl (λ e. omega (arith, e)) refused
 
 -- ---- notes
 
@@ -540,12 +548,12 @@ refused-exact before notes items machine old new none same kept never =
     subst (λ (m : Option MachineState). AreExact (is_some m) items old new) (sym never)
     (subst (λ (l : List FaultNote). AreExact false l old new) (sym (same ∙ kept.added ∙ ap (λ (l : List FaultNote). l ++ kept.more) none)) kept.exact)
 
-pub complete-answer : (words : List (List ℕ)) (input left before after : List ℕ) (old new : Beyond) (status : ℕ) (machine : Option MachineState) (items : List FaultNote) (was now : FileState)
+pub complete-answer : (units : List UnitState) (words : List (List ℕ)) (input left before after : List ℕ) (old new : Beyond) (status : ℕ) (machine : Option MachineState) (items : List FaultNote) (was now : FileState)
     → (status ≢ 102) × (status ≢ 106) → AreCounted items was now → NoneFailed was now
-    → IsOutcome words input left before after old new status machine (notes_said items) → IsComplete words input left before after old new status machine
-complete-answer words input left before after old new status machine items was now other counted none o =
-    complete words input left before after old new status machine other.0 other.1
-    (subst (λ (l : List FaultNote). IsOutcome words input left before after old new status machine (notes_said l)) (no-notes items was now counted none) o)
+    → IsOutcome units words input left before after old new status machine (notes_said items) → IsComplete units words input left before after old new status machine
+complete-answer units words input left before after old new status machine items was now other counted none o =
+    complete units words input left before after old new status machine other.0 other.1
+    (subst (λ (l : List FaultNote). IsOutcome units words input left before after old new status machine (notes_said l)) (no-notes items was now counted none) o)
 
 -- a status of the session that is no fault's
 pub session-status : (words : List (List ℕ)) (status sink sink_now source source_now : ℕ) → StatusCause words status sink sink_now source source_now → (Rose sink sink_now → ⊥) → (Rose source source_now → ⊥)
@@ -588,25 +596,25 @@ not-refused : (there status : ℕ) (text before after : List ℕ) → IsRefused 
 not-refused there status text before after (inl h) other is = let h0 = h.0 in other (sym h0 ∙ is)
 not-refused there status text before after (inr h) other is = let h0 = h.0 in omega (arith, h0, is)
 
-cut-before : (words : List (List ℕ)) (options : Options) (input before after : List ℕ) (old new : Beyond) (machine : Option MachineState) (notes : List Note)
+cut-before : (units : List UnitState) (words : List (List ℕ)) (options : Options) (input before after : List ℕ) (old new : Beyond) (machine : Option MachineState) (notes : List Note)
     → options_of words ≡ Some options → machine ≡ None → new ≡ old → after ≡ before → AreWordClosings notes
-    → IsCutShort words input input before after old new machine notes
-cut-before words options input before after old new machine notes chosen none same unprinted closings = record {
+    → IsCutShort units words input input before after old new machine notes
+cut-before units words options input before after old new machine notes chosen none same unprinted closings = record {
   options = options;
   words_are = chosen;
   cut = inl (record { none = none; unprinted = unprinted; unread = refl; unchanged = same; closings = closings });
 }
 
-pub files-memory : (words : List (List ℕ)) (options : Options) (input before after : List ℕ) (old new : Beyond) (why : Refusal) (status : ℕ) (machine : Option MachineState) (notes : List Note)
+pub files-memory : (units : List UnitState) (words : List (List ℕ)) (options : Options) (input before after : List ℕ) (old new : Beyond) (why : Refusal) (status : ℕ) (machine : Option MachineState) (notes : List Note)
     → options_of words ≡ Some options → machine ≡ None → new ≡ old → status ≡ 103 → IsDenied (denial_of words why) status before after
     → (why ≡ refusal.OutOfMemory → AreWordClosings notes)
-    → IsCutShort words input input before after old new machine notes
-files-memory words options input before after old new (Unopened place) status machine notes chosen none same is denied closings =
+    → IsCutShort units words input input before after old new machine notes
+files-memory units words options input before after old new (Unopened place) status machine notes chosen none same is denied closings =
     absurd (not-refused 101 status _ before after denied (λ e. omega (arith, e)) is)
-files-memory words options input before after old new (BadKeys place) status machine notes chosen none same is denied closings =
+files-memory units words options input before after old new (BadKeys place) status machine notes chosen none same is denied closings =
     absurd (not-refused 105 status _ before after denied (λ e. omega (arith, e)) is)
-files-memory words options input before after old new refusal.OutOfMemory status machine notes chosen none same is denied closings =
-    cut-before words options input before after old new machine notes chosen none same denied.1 (closings refl)
+files-memory units words options input before after old new refusal.OutOfMemory status machine notes chosen none same is denied closings =
+    cut-before units words options input before after old new machine notes chosen none same denied.1 (closings refl)
 
 -- ---- a workload
 

@@ -13,6 +13,7 @@ use Rattle.file_commands.specs.declared.note.FaultNote.{FaultNote}
 use Rattle.file_commands.specs.Notes.{Note, notes_said}
 use Rattle.file_commands.specs.Counts.{AreCounted}
 use Rattle.expect_actions.specs.KeysFile.{Key}
+use Rattle.unit_trait.specs.Calls.{UnitState}
 use Rattle.nova_machine.specs.Machine.{MachineState, attached_files}
 use Rattle.nova_machine.specs.Comes.{output}
 use Rattle.observations.specs.Observations.{reads_of}
@@ -34,24 +35,24 @@ pub bare-step : (m : MachineState) (files : List NamedBytes) → m.slots ≡ no_
 bare-step m files bare =
     subst (λ (slots : List (Option Held)). StepAt (attachment_at (attachments_of slots) disk_unit) m.disk m.aside files) (sym bare) tt
 
-opening-input : (words : List (List ℕ)) (options : Options) (keys : List Key) (script : Option (List ℕ)) (files : List NamedBytes) (ahead : Ahead) (input : List ℕ) (own : List Note)
-    → (opening words options keys script files ahead input own).input ≡ input
+opening-input : (units : List UnitState) (words : List (List ℕ)) (options : Options) (keys : List Key) (script : Option (List ℕ)) (files : List NamedBytes) (ahead : Ahead) (input : List ℕ) (own : List Note)
+    → (opening units words options keys script files ahead input own).input ≡ input
 unfolding session_with
-opening-input words options keys script files ahead input own = refl
+opening-input units words options keys script files ahead input own = refl
 
 -- the session that was begun is the one that the definition opens
-pub says-no-more : (tells : Bool) (Told : Type 0) (words : List (List ℕ)) (options : Options) (s : CommandState) (o : Opening) (was mid : FileState) (lines : LineState) (whole : List LineAnswer) (new : Beyond)
-    (input left before after : List ℕ) (notes' : List Note) → options_of words ≡ Some options → Begun Told words options s o was mid → Told
+pub says-no-more : (tells : Bool) (Told : Type 0) (units : List UnitState) (words : List (List ℕ)) (options : Options) (s : CommandState) (o : Opening) (was mid : FileState) (lines : LineState) (whole : List LineAnswer) (new : Beyond)
+    (input left before after : List ℕ) (notes' : List Note) → options_of words ≡ Some options → Begun Told units words options s o was mid → Told
     → SessionSaysNoMore (λ (w : List LineAnswer) (n : List Note). beginning s (beyond mid.files lines w) o input n) tells whole left (output before lines.sent) (output after new.lines.sent) (notes_said s.notes) notes'
-    → SaysNoMore tells words input left before after (beyond was.files lines whole) new notes'
-says-no-more tells Told words options s o was mid lines whole new input left before after notes' chosen begun told p =
+    → SaysNoMore tells units words input left before after (beyond was.files lines whole) new notes'
+says-no-more tells Told units words options s o was mid lines whole new input left before after notes' chosen begun told p =
     let ahead = ahead_of lines.told p.recorded in
     let kept = notes_said s.notes in
-    let start : List Note → Session = λ n. opening words options s.keys (script_text o) was.files ahead input n in
+    let start : List Note → Session = λ n. opening units words options s.keys (script_text o) was.files ahead input n in
     let by_start : (List Note → Session) → Type 0 = λ from. SaysUpTo from tells left (output before lines.sent) (output after new.lines.sent) kept notes' in
     let says : SaysUpTo start tells left (output before lines.sent) (output after new.lines.sent) kept notes' =
-    subst by_start (λ i (n : List Note). same-start Told words options s o was mid lines p.recorded input n begun told i) p.says in
-    let follow = follows words options s.keys (script_text o) was.files ahead input says.own says.first in
+    subst by_start (λ i (n : List Note). same-start Told units words options s o was mid lines p.recorded input n begun told i) p.says in
+    let follow = follows units words options s.keys (script_text o) was.files ahead input says.own says.first in
     let reads = reads_of (says.done ++ (step says.reached).made) + says.made in
     record {
       own = kept ++ says.own;
@@ -76,14 +77,14 @@ says-no-more tells Told words options s o was mid lines whole new input left bef
       printed = says.written;
       heard = says.heard;
       made = says.made;
-      rest = says.rest ∙ ap (drop reads) (opening-input words options s.keys (script_text o) was.files ahead input says.own);
+      rest = says.rest ∙ ap (drop reads) (opening-input units words options s.keys (script_text o) was.files ahead input says.own);
     }
 
 -- where no call on a file failed, no note was kept
-pub without-notes : (tells : Bool) (words : List (List ℕ)) (input left before after : List ℕ) (old new : Beyond) (items : List FaultNote) (was now : FileState) → AreCounted items was now → NoneFailed was now
-    → SaysNoMore tells words input left before after old new (notes_said items) → SaysNoMore tells words input left before after old new []
-without-notes tells words input left before after old new items was now counted none =
-    subst (λ (l : List FaultNote). SaysNoMore tells words input left before after old new (notes_said l)) (no-notes items was now counted none)
+pub without-notes : (tells : Bool) (units : List UnitState) (words : List (List ℕ)) (input left before after : List ℕ) (old new : Beyond) (items : List FaultNote) (was now : FileState) → AreCounted items was now → NoneFailed was now
+    → SaysNoMore tells units words input left before after old new (notes_said items) → SaysNoMore tells units words input left before after old new []
+without-notes tells units words input left before after old new items was now counted none =
+    subst (λ (l : List FaultNote). SaysNoMore tells units words input left before after old new (notes_said l)) (no-notes items was now counted none)
 
 -- what follows of either
 pub either-said : {A B C D : Type 0} → (A → C) → (B → D) → A ⊎ B → C ⊎ D

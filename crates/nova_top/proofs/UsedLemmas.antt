@@ -20,6 +20,7 @@ use Rattle.nova_top.specs.Ends.{HasKeysFile, HasScript}
 use Rattle.nova_top.specs.Used.{ProgramTold}
 use Rattle.program_start.specs.WordFiles.{NamesTold}
 use Rattle.nova_top.proofs.ProgramLemmas.{Begun, follows, same-start}
+use Rattle.unit_trait.specs.Calls.{UnitState}
 
 -- ---- the files of the words
 
@@ -32,15 +33,15 @@ words-named tells words options chosen told = λ some. elim some [
 
 -- ---- the session
 
-pub course-told : (files lines : Bool) (Told : Type 0) (words : List (List ℕ)) (options : Options) (s : CommandState) (o : Opening) (was mid : FileState) (l : LineState) (input : List ℕ) → options_of words ≡ Some options
-    → Begun Told words options s o was mid → Told → ProgramTold files lines words input was.files l
+pub course-told : (files lines : Bool) (Told : Type 0) (units : List UnitState) (words : List (List ℕ)) (options : Options) (s : CommandState) (o : Opening) (was mid : FileState) (l : LineState) (input : List ℕ) → options_of words ≡ Some options
+    → Begun Told units words options s o was mid → Told → ProgramTold files lines units words input was.files l
     → CourseTold files lines (λ whole notes. beginning s (beyond mid.files l whole) o input notes)
-course-told files lines Told words options s o was mid l input chosen begun told used whole notes follow count made at comes =
+course-told files lines Told units words options s o was mid l input chosen begun told used whole notes follow count made at comes =
     let ahead = ahead_of l.told whole in
     let kept = notes_said s.notes in
-    let start : List Note → Session = λ n. opening words options s.keys (script_text o) was.files ahead input n in
-    let same = λ (n : List Note). same-start Told words options s o was mid l whole input n begun told in
-    let first = follows words options s.keys (script_text o) was.files ahead input notes (subst (λ (x : Session). MayFollow x.spent x.live notes) (same []) follow) in
+    let start : List Note → Session = λ n. opening units words options s.keys (script_text o) was.files ahead input n in
+    let same = λ (n : List Note). same-start Told units words options s o was mid l whole input n begun told in
+    let first = follows units words options s.keys (script_text o) was.files ahead input notes (subst (λ (x : Session). MayFollow x.spent x.live notes) (same []) follow) in
     used.texts whole (kept ++ notes) made at (record {
       options = options;
       keys = s.keys;

@@ -1,5 +1,5 @@
 -- The session that the program begins is what every session is, and what is left is in range.
-use Rattle.std.proofs.Common.{◌≡◌, inl, ℕ, zero, suc, ◌+◌, ◌^◌, ◌<◌, ◌≤◌, ◌&&◌, ◌==◌, nat_lt, nat_le, Bool, true, false, List, [], ◌∷◌, ◌++◌, length, take, drop, map, Option, Some, None, IfSome, option_map, unwrap_or, Result, Ok, Err, if◌then◌else◌, refl, sym, subst, ◌∙◌, arith, length-take}
+use Rattle.std.proofs.Common.{◌≡◌, inl, inr, ℕ, zero, suc, ◌+◌, ◌^◌, ◌<◌, ◌≤◌, ◌&&◌, ◌==◌, nat_lt, nat_le, Bool, true, false, List, [], ◌∷◌, ◌++◌, length, take, drop, map, Option, Some, None, IfSome, option_map, unwrap_or, Result, Ok, Err, if◌then◌else◌, refl, sym, subst, ◌∙◌, ap, arith, length-take, replicate}
 use Rattle.std.specs.List.{AllByRecursion, list_all, position}
 use Rattle.std.specs.Option.{option_and_then}
 use Rattle.std.proofs.lemmas.Bool.{and_parts, ltb-true}
@@ -19,28 +19,34 @@ use Rattle.expect_actions.proofs.AnswerLemmas.{computed_answers}
 use Rattle.host_lines.specs.Traffic.{Peer, Gone, Ahead}
 use Rattle.telnet_lines.specs.Line.{LineOf, unconnected, renamed}
 use Rattle.unit_files.specs.Attachments.{Held}
-use Rattle.nova_machine.specs.Machine.{MachineState, lines_for, place_of as line_place, reset_devices, reset_machine, new_machine}
+use Rattle.unit_trait.specs.declared.kind.Kind.TheVariants.{Qty}
+use Rattle.unit_trait.specs.Calls.{UnitState}
+use Rattle.nova_machine.specs.Machine.{MachineState, line_count, lines_for, place_of as line_place, reset_devices, reset_machine, new_machine}
 use Rattle.nova_machine.specs.Seen.{unnumbered, erased}
 use Rattle.nova_machine.specs.Valid.{AreBytes, HasByteName, ValidMachine, ValidLine, DiskIsItsFile}
 use Rattle.machine_laws.proofs.StayingValid.{runs-stay-valid, kinds-begin}
 use Rattle.machine_laws.proofs.ValidBytes.{AreFiles}
 use Rattle.nova_machine.proofs.Each.{every-append, every-take, every-drop}
-use Rattle.terminal_ports.specs.Ports.{HaveNone, AreNumbered}
+use Rattle.terminal_ports.specs.Ports.{HaveNone, HavePortsFrom, AreNumbered}
+use Rattle.state_transfer.specs.SavedValid.{AreStandard}
 use Rattle.command_session.proofs.PortLemmas.{apart-free}
 use Rattle.command_laws.specs.Valid.{IsProgramMachine}
+use Rattle.command_laws.proofs.OwnLines.{same-many, standard-by}
 use Rattle.command_laws.proofs.ValidWatch.{read-bytes}
 use Rattle.command_laws.proofs.ValidMachines.{GivesWhole, whole-bytes, memory-valid}
+use Rattle.unit_list.specs.Bus.{kinds_of}
 use Rattle.unit_list.proofs.Resets.{reset-kinds}
 use Rattle.session_texts.specs.Scripts.{Script}
 use Rattle.script_laws.specs.Valid.{ValidScript}
 use Rattle.command_words.specs.declared.options.Options.{Options}
-use Rattle.command_words.specs.Standard.{standard_kinds, standard_units}
+use Rattle.command_words.specs.Standard.{standard_kinds, standard_units, all_units, IsStandard}
 use Rattle.command_words.specs.Words.{keys_name, script_name, script_words, options_of}
 use Rattle.program_start.specs.Workload.{next_number, words_behind, with_words, loop_words, count_words, filled, with_workload, workload_text, first_text}
 use Rattle.program_start.specs.Start as starting
 use Rattle.nova_top.specs.Outside.{first_scripts, first_live, session_with}
 use Rattle.program_start.specs.Start.{calls_on, word_file, Denial, or_bad_keys, taken_keys, script_from, taken_script, Start, Refused, Begins, start_by, start_of}
 use Rattle.nova_top.specs.Valid.{AreHandedBytes, IsGoodOpening}
+use Rattle.nova_top.proofs.PortLemmas.{begins-free}
 use Rattle.command_words.proofs.WordsLemmas.{IsLimit, words-fit}
 
 -- ---- keys
@@ -242,12 +248,19 @@ erased-valid m is = record {
   disk = is.disk;
 }
 
-first_machine : Option ℕ → MachineState
-first_machine workload = with_workload workload (new_machine standard_units)
+first_machine : Option ℕ → List UnitState → MachineState
+first_machine workload units = with_workload workload (new_machine units)
 
-first-valid : (workload : Option ℕ) → ValidMachine (first_machine workload)
+first-valid : (workload : Option ℕ) (units : List UnitState) → IsStandard units → ValidMachine (first_machine workload units)
 unfolding first_machine
-first-valid workload = workload-valid workload (new_machine standard_units) (kinds-begin standard_kinds)
+first-valid workload units (inl ten) =
+    subst (λ (us : List UnitState). ValidMachine (with_workload workload (new_machine us))) (sym ten) (workload-valid workload (new_machine standard_units) (kinds-begin standard_kinds))
+first-valid workload units (inr all) =
+    subst (λ (us : List UnitState). ValidMachine (with_workload workload (new_machine us))) (sym all) (workload-valid workload (new_machine all_units) (kinds-begin (standard_kinds ++ Qty ∷ [])))
+
+first-standard : (units : List UnitState) → IsStandard units → AreStandard units
+first-standard units (inl ten) = inl (ap kinds_of ten)
+first-standard units (inr all) = inr (ap kinds_of all)
 
 empty-line : ValidLine (unconnected None)
 empty-line = record { port = tt; nothing = λ none. refl; keys = tt; output = tt; few_keys = omega arith; few_bytes = omega arith }
@@ -267,10 +280,48 @@ record IsFresh (m : MachineState) : Type 0 where
   free : HaveNone m.lines
   numbered : AreNumbered (drop (line_place 1) (map (renamed {Q = Peer} (λ _. Gone)) m.lines))
 
-first-fresh : (workload : Option ℕ) → IsFresh (first_machine workload)
+-- lines without a port, behind which nobody is
+abbrev free_lines : ℕ → List (LineOf Peer)
+free_lines n = map (renamed {P = ℕ} (λ _. Gone)) (replicate {A = LineOf ℕ} n (unconnected None))
+
+free-valid : (n : ℕ) → AllByRecursion ValidLine (free_lines n)
+free-valid zero = tt
+free-valid (suc n) = (empty-line, free-valid n)
+
+free-ports : (n : ℕ) → HavePortsFrom None (free_lines n)
+free-ports zero = tt
+free-ports (suc n) = (refl, free-ports n)
+
+free-numbered : (n : ℕ) → AreNumbered (free_lines n)
+free-numbered zero = tt
+free-numbered (suc n) = free-ports n
+
+numbered-behind : (n : ℕ) → AreNumbered (drop 1 (free_lines n))
+numbered-behind zero = tt
+numbered-behind (suc n) = free-numbered n
+
+first-fresh : (workload : Option ℕ) (units : List UnitState) → IsStandard units → IsFresh (first_machine workload units)
 unfolding first_machine new_machine reset_machine reset_devices
-first-fresh None = record { time = refl; taken = refl; disk = λ files keys ahead. refl; lines = (empty-line, (empty-line, tt)); own = record { units = inl (reset-kinds standard_units); numbers = refl; aside = refl; lines = refl }; count = refl; free = (refl, (refl, tt)); numbered = tt }
-first-fresh (Some number) = record { time = refl; taken = refl; disk = λ files keys ahead. refl; lines = (empty-line, (empty-line, tt)); own = record { units = inl (reset-kinds standard_units); numbers = refl; aside = refl; lines = refl }; count = refl; free = (refl, (refl, tt)); numbered = tt }
+first-fresh None units is = record {
+  time = refl;
+  taken = refl;
+  disk = λ files keys ahead. refl;
+  lines = free-valid (suc (line_count units));
+  own = record { units = standard-by units _ (reset-kinds units) (first-standard units is); numbers = refl; aside = refl; lines = refl };
+  count = same-many units _ (sym (reset-kinds units));
+  free = begins-free (suc (line_count units));
+  numbered = numbered-behind (line_count units);
+}
+first-fresh (Some number) units is = record {
+  time = refl;
+  taken = refl;
+  disk = λ files keys ahead. refl;
+  lines = free-valid (suc (line_count units));
+  own = record { units = standard-by units _ (reset-kinds units) (first-standard units is); numbers = refl; aside = refl; lines = refl };
+  count = same-many units _ (sym (reset-kinds units));
+  free = begins-free (suc (line_count units));
+  numbered = numbered-behind (line_count units);
+}
 
 -- ---- the session
 
@@ -295,12 +346,12 @@ first-script (Some text) words bytes all =
       each = (record { text = bytes; place = omega arith; few = omega (arith, many); arguments = every-take AreBytes 10 words all }, tt);
     }
 
-pub opening-good : (words : List (List ℕ)) (options : Options) (keys : List Key) (script : Option (List ℕ)) (files : List NamedBytes) (ahead : Ahead) (input : List ℕ) (notes : List Note)
-    → AreHandedBytes words input files ahead → IsGoodStart (Begins options keys script) → IsGoodOpening words options keys script files ahead input notes
+pub opening-good : (units : List UnitState) (words : List (List ℕ)) (options : Options) (keys : List Key) (script : Option (List ℕ)) (files : List NamedBytes) (ahead : Ahead) (input : List ℕ) (notes : List Note)
+    → IsStandard units → AreHandedBytes words input files ahead → IsGoodStart (Begins options keys script) → IsGoodOpening units words options keys script files ahead input notes
 unfolding session_with first_machine
-opening-good words options keys script files ahead input notes handed good =
-    let m = first_machine options.workload in
-    let fresh = first-fresh options.workload in
+opening-good units words options keys script files ahead input notes standard handed good =
+    let m = first_machine options.workload units in
+    let fresh = first-fresh options.workload units standard in
     let first = first-script script (script_words words options) good.3 (words-bytes words options handed.each_word) in
     let taken = fresh.taken in
     let time = fresh.time in
@@ -309,7 +360,7 @@ opening-good words options keys script files ahead input notes handed good =
       valid = record {
         live = record {
           valid = record {
-            machine = erased-valid m (first-valid options.workload);
+            machine = erased-valid m (first-valid options.workload units standard);
             watch = runs-stay-valid.nothing_watched;
             taken = omega (arith, taken);
             known = good.2.1;
@@ -336,9 +387,9 @@ opening-good words options keys script files ahead input notes handed good =
 
 -- ---- the session that the program begins
 
-pub program-begins-valid : (words : List (List ℕ)) (input : List ℕ) (files : List NamedBytes) (ahead : Ahead) (notes more : List Note)
-    (options : Options) (keys : List Key) (script : Option (List ℕ)) → AreHandedBytes words input files ahead
+pub program-begins-valid : (units : List UnitState) (words : List (List ℕ)) (input : List ℕ) (files : List NamedBytes) (ahead : Ahead) (notes more : List Note)
+    (options : Options) (keys : List Key) (script : Option (List ℕ)) → IsStandard units → AreHandedBytes words input files ahead
     → (start_of (options_of words) words files notes).0 ≡ Begins options keys script
-    → IsGoodOpening words options keys script files ahead input more
-program-begins-valid words input files ahead notes more options keys script handed is =
-    opening-good words options keys script files ahead input more handed (subst IsGoodStart is (good-start words files notes handed.each_file))
+    → IsGoodOpening units words options keys script files ahead input more
+program-begins-valid units words input files ahead notes more options keys script standard handed is =
+    opening-good units words options keys script files ahead input more standard handed (subst IsGoodStart is (good-start words files notes handed.each_file))

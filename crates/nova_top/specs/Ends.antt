@@ -17,6 +17,7 @@ use Rattle.file_commands.specs.Counts.{one_if, openings_noted}
 use Rattle.file_commands.specs.AllUnits.{IsUnwritten}
 use Rattle.whole_files.specs.Claims.{raised_by}
 use Rattle.expect_actions.specs.KeysFile.{Key}
+use Rattle.unit_trait.specs.Calls.{UnitState}
 use Rattle.nova_machine.specs.Machine.{MachineState, lines_for}
 use Rattle.nova_machine.specs.Seen.{erased}
 use Rattle.nova_machine.specs.Comes.{output}
@@ -28,7 +29,6 @@ use Rattle.terminal_ports.specs.Ports.{HavePortsApart}
 use Rattle.scp_script.specs.Loop.{missed_for, given_for}
 use Rattle.scp_script.specs.Perform.{RunsShort}
 use Rattle.command_words.specs.declared.options.Options.{Options}
-use Rattle.command_words.specs.Standard.{standard_units}
 use Rattle.command_words.specs.Words.{options_of}
 use Rattle.nova_top.specs.Outside.{trace_of, Outside, Left, left_by, opening, outcome, sent_by, whole_trace}
 use Rattle.program_start.specs.Start.{Begins, start_of}
@@ -55,8 +55,9 @@ left_at machine new = record {
 }
 
 -- what is handed in, to a console that takes so many bytes and an input that lets so many reads through
-abbrev pub handed_in : List (List ℕ) → List ℕ → Beyond → List Note → ℕ → ℕ → Outside
-handed_in words input old notes takes gives = record {
+abbrev pub handed_in : List UnitState → List (List ℕ) → List ℕ → Beyond → List Note → ℕ → ℕ → Outside
+handed_in units words input old notes takes gives = record {
+  units = units;
   words = words;
   input = input;
   files = old.files;
@@ -70,7 +71,7 @@ handed_in words input old notes takes gives = record {
 -- through: those that were made, at status 106, and else all that there can be; and with exactly the notes that were kept,
 -- all of which it uses. The bytes of the input that were consumed are exactly those of the reads that were made, and
 -- callers of lines have heard what was sent to them until then.
-pub record IsOutcome (words : List (List ℕ)) (input left before after : List ℕ) (old new : Beyond) (status : ℕ) (machine : Option MachineState) (notes : List Note) : Type 0 where
+pub record IsOutcome (units : List UnitState) (words : List (List ℕ)) (input left before after : List ℕ) (old new : Beyond) (status : ℕ) (machine : Option MachineState) (notes : List Note) : Type 0 where
   pub taken : List ℕ
   pub gives : ℕ
   pub made : ℕ
@@ -78,8 +79,8 @@ pub record IsOutcome (words : List (List ℕ)) (input left before after : List �
   pub no_failed_read : status ≢ 106 → gives ≡ length input + 1
   pub written : after ≡ before ++ taken
   pub rest : left ≡ drop made input
-  pub is : outcome (handed_in words input old notes (length taken) gives) ≡ ends status taken made (left_at machine new)
-  pub heard : new.lines.sent ≡ heard_with old.lines.sent (sent_by (handed_in words input old notes (length taken) gives))
+  pub is : outcome (handed_in units words input old notes (length taken) gives) ≡ ends status taken made (left_at machine new)
+  pub heard : new.lines.sent ≡ heard_with old.lines.sent (sent_by (handed_in units words input old notes (length taken) gives))
 
 -- Memory ran out before the first line: there is no machine, nothing was printed or read, no file has changed, nothing was
 -- asked on lines, and no call has failed but closings.
@@ -92,21 +93,21 @@ pub record StopsBefore (input left before after : List ℕ) (old new : Beyond) (
 
 -- Memory ran out in the session, which stopped short: what the commands that were done have left stands, but that a RESTORE
 -- that memory ran out in may have listened on ports.
-pub record StopsInside (words : List (List ℕ)) (options : Options) (input left before after : List ℕ) (old new : Beyond) (machine : Option MachineState) (notes : List Note) : Type 0 where
+pub record StopsInside (units : List UnitState) (words : List (List ℕ)) (options : Options) (input left before after : List ℕ) (old new : Beyond) (machine : Option MachineState) (notes : List Note) : Type 0 where
   pub keys : List Key
   pub script : Option (List ℕ)
   pub used : ℕ
   pub starts : start_of (Some options) words old.files notes ≡ (Begins options keys script, used)
   pub live : Live
   pub is : left_at machine new ≡ left_by (record { live = live; notes = [] })
-  pub short : RunsShort (opening words options keys script old.files (ahead_of old.lines.told old.whole) input (drop used notes)) live left
+  pub short : RunsShort (opening units words options keys script old.files (ahead_of old.lines.told old.whole) input (drop used notes)) live left
       (output before old.lines.sent) (output after new.lines.sent)
 
 -- memory ran out, with words that are in their grammar
-pub record IsCutShort (words : List (List ℕ)) (input left before after : List ℕ) (old new : Beyond) (machine : Option MachineState) (notes : List Note) : Type 0 where
+pub record IsCutShort (units : List UnitState) (words : List (List ℕ)) (input left before after : List ℕ) (old new : Beyond) (machine : Option MachineState) (notes : List Note) : Type 0 where
   pub options : Options
   pub words_are : options_of words ≡ Some options
-  pub cut : StopsBefore input left before after old new machine notes ⊎ StopsInside words options input left before after old new machine notes
+  pub cut : StopsBefore input left before after old new machine notes ⊎ StopsInside units words options input left before after old new machine notes
 
 -- a keys file is among the words
 pub record HasKeysFile (words : List (List ℕ)) : Type 0 where
@@ -196,11 +197,11 @@ abbrev pub FilesAtEnd : Option MachineState → List Opened → List Opened → 
 FilesAtEnd None old new = new ≡ old
 FilesAtEnd (Some m) old new = AllOpen m.slots new × Around m.slots old new
 
--- The machine has the lines of the standard units, of which no two have one port. The port of each is listened on, where it has
+-- The machine has the lines of its units, of which no two have one port. The port of each is listened on, where it has
 -- one; each port that is listened on and each connection that stands is that of a line, or was there before; and the count of
 -- faults has not fallen.
-pub record PortsAtEnd (lines : List (LineOf ℕ)) (old new : LineState) : Type 0 where
-  pub count : length lines ≡ length (lines_for standard_units)
+pub record PortsAtEnd (units : List UnitState) (lines : List (LineOf ℕ)) (old new : LineState) : Type 0 where
+  pub count : length lines ≡ length (lines_for units)
   pub session : HavePortsApart lines
   pub listened : AreListened new lines
   pub ports : (port : ℕ) → IsTrue (new.listens port) → HasPort port lines ⊎ IsTrue (old.listens port)
@@ -208,26 +209,26 @@ pub record PortsAtEnd (lines : List (LineOf ℕ)) (old new : LineState) : Type 0
   pub later : old.faults ≤ new.faults
 
 -- that, told or not; without a machine nothing was asked of the ports and connections
-abbrev pub LinesAtEnd : Option MachineState → LineState → LineState → Type 0
-LinesAtEnd None old new = new ≡ old
-LinesAtEnd (Some m) old new = PortsAtEnd m.lines old new
+abbrev pub LinesAtEnd : List UnitState → Option MachineState → LineState → LineState → Type 0
+LinesAtEnd units None old new = new ≡ old
+LinesAtEnd units (Some m) old new = PortsAtEnd units m.lines old new
 
 -- no call on a file has failed
 abbrev pub NoneFailed : FileState → FileState → Type 0
 NoneFailed old new = ((file : ℕ) → Rose (old.faults file) (new.faults file) → ⊥) × (Rose old.open_faults new.open_faults → ⊥)
 
 -- all that the program does with them, where no call on a file fails
-abbrev pub whole_with : List (List ℕ) → List ℕ → Beyond → Trace Left
-whole_with words input old = whole_trace words input old.files (ahead_of old.lines.told old.whole) []
+abbrev pub whole_with : List UnitState → List (List ℕ) → List ℕ → Beyond → Trace Left
+whole_with units words input old = whole_trace units words input old.files (ahead_of old.lines.told old.whole) []
 
 -- The status and what is left are those of the whole trace, all of whose text was printed, all of whose reads were made, and
 -- all of whose bytes for callers were sent: so it is without a failing call and with memory.
-pub record IsComplete (words : List (List ℕ)) (input left before after : List ℕ) (old new : Beyond) (status : ℕ) (machine : Option MachineState) : Type 0 where
-  pub status_is : status ≡ (whole_with words input old).ended.status
-  pub is : left_at machine new ≡ (whole_with words input old).ended.state
-  pub printed : after ≡ before ++ text_of (whole_with words input old).made
-  pub rest : left ≡ drop (reads_of (whole_with words input old).made) input
-  pub heard : new.lines.sent ≡ heard_with old.lines.sent (sent_of (whole_with words input old).made)
+pub record IsComplete (units : List UnitState) (words : List (List ℕ)) (input left before after : List ℕ) (old new : Beyond) (status : ℕ) (machine : Option MachineState) : Type 0 where
+  pub status_is : status ≡ (whole_with units words input old).ended.status
+  pub is : left_at machine new ≡ (whole_with units words input old).ended.state
+  pub printed : after ≡ before ++ text_of (whole_with units words input old).made
+  pub rest : left ≡ drop (reads_of (whole_with units words input old).made) input
+  pub heard : new.lines.sent ≡ heard_with old.lines.sent (sent_of (whole_with units words input old).made)
 
 -- where no byte was refused and no read failed, the outcome is that of the whole trace
 pub record IsWholeOutcome (o : Outside) : Type 0 where

@@ -6,6 +6,7 @@ use Rattle.file_traits.specs.Lists.{NamedBytes}
 use Rattle.host_lines.specs.Traffic.{Peer, Gone, Ahead}
 use Rattle.telnet_lines.specs.Line.{LineOf, renamed}
 use Rattle.file_commands.specs.Notes.{Note}
+use Rattle.unit_trait.specs.Calls.{UnitState}
 use Rattle.expect_actions.specs.KeysFile.{Key}
 use Rattle.expect_actions.specs.Watch.{empty_watch}
 use Rattle.nova_machine.specs.Machine.{MachineState, new_machine}
@@ -15,15 +16,15 @@ use Rattle.session_texts.specs.Scripts.{Script, begun}
 use Rattle.scp_script.specs.Session.{State, Session, trace}
 use Rattle.session_texts.specs.Actions.{texts_of}
 use Rattle.command_words.specs.declared.options.Options.{Options}
-use Rattle.command_words.specs.Standard.{standard_units}
 use Rattle.program_start.specs.Start.{Start, Refused, Begins, start_of}
 use Rattle.program_start.specs.Workload.{with_workload}
 use Rattle.command_words.specs.Words.{options_of, script_words}
 
--- The words and the input; all files by their names; what is still to come on lines; the calls on files that fail, in
--- order; how many bytes the console takes; and how many reads the input lets through before one fails, where to find its
--- end counts as one.
+-- The units of the machine; the words and the input; all files by their names; what is still to come on lines; the calls on
+-- files that fail, in order; how many bytes the console takes; and how many reads the input lets through before one fails,
+-- where to find its end counts as one.
 pub record Outside : Type 0 where
+  pub units : List UnitState
   pub words : List (List ℕ)
   pub input : List ℕ
   pub files : List NamedBytes
@@ -86,30 +87,30 @@ session_with m keys options scripts files ahead input notes = record {
   open_ = true;
 }
 
--- a new session, with a new machine of the standard units, in whose memory a workload may be, and with a script whose name and
+-- a new session, with a new machine of those units, in whose memory a workload may be, and with a script whose name and
 -- arguments are among the words
-abbrev pub opening : List (List ℕ) → Options → List Key → Option (List ℕ) → List NamedBytes → Ahead → List ℕ → List Note → Session
-opening words options keys script files ahead input notes =
-    session_with (with_workload options.workload (new_machine standard_units)) keys options (first_scripts script (script_words words options)) files ahead input notes
+abbrev pub opening : List UnitState → List (List ℕ) → Options → List Key → Option (List ℕ) → List NamedBytes → Ahead → List ℕ → List Note → Session
+opening units words options keys script files ahead input notes =
+    session_with (with_workload options.workload (new_machine units)) keys options (first_scripts script (script_words words options)) files ahead input notes
 
 -- What it does from there on, with the notes that are left. A text that refuses the words, the keys file or the script is all
 -- that is printed then, there is no machine, and the input is unread.
-abbrev pub trace_from : List (List ℕ) → Start → List NamedBytes → Ahead → List ℕ → List Note → Trace Left
-trace_from words (Refused status text) files ahead input notes =
+abbrev pub trace_from : List UnitState → List (List ℕ) → Start → List NamedBytes → Ahead → List ℕ → List Note → Trace Left
+trace_from units words (Refused status text) files ahead input notes =
     let left : Left = record { machine = None; lines = []; ahead = ahead; files = files; notes = notes } in
     record { made = Prints text left ∷ []; ended = record { status = status; state = left } }
-trace_from words (Begins options keys script) files ahead input notes =
-    map_trace left_by (trace (opening words options keys script files ahead input notes))
+trace_from units words (Begins options keys script) files ahead input notes =
+    map_trace left_by (trace (opening units words options keys script files ahead input notes))
 
--- all that the program does with those words, input, files and lines, and those failing calls on files, where nothing else
+-- all that the program does with those units, words, input, files and lines, and those failing calls on files, where nothing else
 -- fails
-unfoldable pub whole_trace : List (List ℕ) → List ℕ → List NamedBytes → Ahead → List Note → Trace Left
-whole_trace words input files ahead notes =
+unfoldable pub whole_trace : List UnitState → List (List ℕ) → List ℕ → List NamedBytes → Ahead → List Note → Trace Left
+whole_trace units words input files ahead notes =
     let start = start_of (options_of words) words files notes in
-    trace_from words start.0 files ahead input (drop start.1 notes)
+    trace_from units words start.0 files ahead input (drop start.1 notes)
 
 abbrev pub trace_of : Outside → Trace Left
-trace_of o = whole_trace o.words o.input o.files o.ahead o.notes
+trace_of o = whole_trace o.units o.words o.input o.files o.ahead o.notes
 
 -- what all that is handed in comes to: the status, what the console has, how many reads were made, and what is left
 unfoldable pub outcome : Outside → Outcome Left

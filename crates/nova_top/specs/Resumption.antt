@@ -6,6 +6,7 @@ use Rattle.host_lines.specs.Traffic.{Answer as LineAnswer}
 use Rattle.host_lines.specs.Told.{ahead_of}
 use Rattle.file_commands.specs.Notes.{Note}
 use Rattle.expect_actions.specs.KeysFile.{Key}
+use Rattle.unit_trait.specs.Calls.{UnitState}
 use Rattle.nova_machine.specs.Machine.{MachineState}
 use Rattle.nova_machine.specs.LineChanges.{heard_with, HearsOn}
 use Rattle.command_session.specs.Live.{Live, Beyond}
@@ -19,19 +20,19 @@ use Rattle.nova_top.specs.Ends.{left_at}
 use Rattle.nova_top.specs.Valid.{AreHandedBytes}
 
 -- the session that the program begins comes to this one, with these observations
-pub record Reaches (words : List (List ℕ)) (input : List ℕ) (old : Beyond) (notes : List Note) (front : List (Observation State)) (at : Session) : Type 0 where
+pub record Reaches (units : List UnitState) (words : List (List ℕ)) (input : List ℕ) (old : Beyond) (notes : List Note) (front : List (Observation State)) (at : Session) : Type 0 where
   pub options : Options
   pub keys : List Key
   pub script : Option (List ℕ)
   pub used : ℕ
   pub count : ℕ
   pub starts : start_of (options_of words) words old.files notes ≡ (Begins options keys script, used)
-  pub comes : ComesTo count (opening words options keys script old.files (ahead_of old.lines.told old.whole) input (drop used notes)) front at
+  pub comes : ComesTo count (opening units words options keys script old.files (ahead_of old.lines.told old.whole) input (drop used notes)) front at
 
 -- The program's session came to a text in which something beside the disk has changed the disk's file, with the first of the
 -- notes that were kept, and with what lines record in the end; where these tell nothing, with what they recorded up to there. All
 -- up to there was printed and read, and sent where lines tell theirs, and nothing is said of what came behind that.
-pub record SaysNoMore (tells : Bool) (words : List (List ℕ)) (input left before after : List ℕ) (old new : Beyond) (notes : List Note) : Type 0 where
+pub record SaysNoMore (tells : Bool) (units : List UnitState) (words : List (List ℕ)) (input left before after : List ℕ) (old new : Beyond) (notes : List Note) : Type 0 where
   pub own : List Note
   pub later : List Note
   pub kept : notes ≡ own ++ later
@@ -39,7 +40,7 @@ pub record SaysNoMore (tells : Bool) (words : List (List ℕ)) (input left befor
   pub same : IsTrue tells → recorded ≡ old.whole
   pub front : List (Observation State)
   pub at : Session
-  pub reaches : Reaches words input (record old { whole = recorded }) own front at
+  pub reaches : Reaches units words input (record old { whole = recorded }) own front at
   pub state : State
   pub last : (step at).next ≡ Over NothingSaid state
   pub more : List ℕ
@@ -63,8 +64,8 @@ pub record EndsAsThat (t : Session) (front : List (Observation State)) (left bef
 -- a session has it that begins at that one. The rest of the input, the budget, the limit of a run, the prompt, the keys and
 -- what is to come on lines, less the listenings on the ports of that one, are the present ones. What was handed in is of
 -- bytes, as all is that a program can be handed.
-abbrev pub ResumesSaved : List (List ℕ) → List ℕ → List ℕ → List ℕ → List ℕ → Beyond → Beyond → ℕ → Option MachineState → List Note → Type 0
-ResumesSaved words input left before after old new status machine notes =
+abbrev pub ResumesSaved : List UnitState → List (List ℕ) → List ℕ → List ℕ → List ℕ → List ℕ → Beyond → Beyond → ℕ → Option MachineState → List Note → Type 0
+ResumesSaved units words input left before after old new status machine notes =
     (front : List (Observation State)) (at behind : Session) (s : Live) (used : ℕ) → AreHandedBytes words input old.files (ahead_of old.lines.told old.whole)
-    → Reaches words input old notes front at → RestoresSaved at behind s used
+    → Reaches units words input old notes front at → RestoresSaved at behind s used
     → EndsAsThat (resumed s used behind) (front ++ asking at) left before after old new status machine

@@ -5,6 +5,7 @@ use Rattle.file_traits.specs.Lists.{NamedBytes}
 use Rattle.file_commands.specs.Notes.{Note}
 use Rattle.expect_actions.specs.KeysFile.{Key}
 use Rattle.host_lines.specs.Traffic.{Ahead}
+use Rattle.unit_trait.specs.Calls.{UnitState}
 use Rattle.nova_machine.specs.Valid.{AreBytes, ValidAhead, DiskIsItsFile}
 use Rattle.script_laws.specs.Valid.{ValidSession}
 use Rattle.command_words.specs.declared.options.Options.{Options}
@@ -18,7 +19,7 @@ pub record AreHandedBytes (words : List (List ℕ)) (input : List ℕ) (files : 
   pub comes : ValidAhead ahead
 
 -- a session at its beginning, with no copy of a file
-pub record IsGoodOpening (words : List (List ℕ)) (options : Options) (keys : List Key) (script : Option (List ℕ))
+pub record IsGoodOpening (units : List UnitState) (words : List (List ℕ)) (options : Options) (keys : List Key) (script : Option (List ℕ))
     (files : List NamedBytes) (ahead : Ahead) (input : List ℕ) (notes : List Note) : Type 0 where
-  pub valid : ValidSession (opening words options keys script files ahead input notes)
-  pub disk : DiskIsItsFile (opening words options keys script files ahead input notes).live
+  pub valid : ValidSession (opening units words options keys script files ahead input notes)
+  pub disk : DiskIsItsFile (opening units words options keys script files ahead input notes).live

@@ -18,7 +18,7 @@ ghost use Rattle.command_session.specs.Live.{beyond};
 ghost use Rattle.scp_script.specs.Loop.{FinishCause, AreKeptFor};
 ghost use Rattle.scp_script.specs.Perform.{beginning, Performed, SaysNoMore as SessionSaysNoMore};
 ghost use Rattle.scp_script.specs.Used.{CourseTold};
-ghost use Rattle.command_words.specs.Standard.{IsStandard, standard_units};
+ghost use Rattle.command_words.specs.Standard.{IsStandard};
 ghost use Rattle.command_words.specs.Words.{texts_of};
 ghost use Rattle.program_start.specs.Start.{usage_text};
 ghost use Rattle.nova_top.specs.Ends.{IsOutcome, IsCutShort, StatusCause, MachineThere, IsComplete, FilesAtEnd, KeptUnwritten, OpeningsAtEnd, LinesAtEnd, NoneFailed, HasWorkload, InputTells};
@@ -77,52 +77,52 @@ pub fn simulate<U: Unit, C: Source, S: Sink, F: Files, L: Lines>(
     lines: &mut L,
 ) -> Ending<U>
     requires { IsStandard (map U.unit_state units.items) }
-    ensures outcome { InputTells (texts_of words.now) C.tells → ProgramTold F.tells L.tells (texts_of words.now)
+    ensures outcome { InputTells (texts_of words.now) C.tells → ProgramTold F.tells L.tells (map U.unit_state units.items) (texts_of words.now)
         (C.left input.old) (F.state files.old).files (L.state lines.old) → IsTrue S.tells
         → result.status ≢ 103
         → (whole : List LineAnswer) → IsFirst (record_in (L.state lines.new).told) whole
-        → SaysNoMore L.tells (texts_of words.now) (C.left input.old) (C.left input.new) (S.written output.old)
+        → SaysNoMore L.tells (map U.unit_state units.items) (texts_of words.now) (C.left input.old) (C.left input.new) (S.written output.old)
         (S.written output.new) (beyond (F.state files.old).files (L.state lines.old) whole)
         (beyond (F.state files.new).files (L.state lines.new) whole) (notes_said result.faults.items)
-        ⊎ IsOutcome (texts_of words.now) (C.left input.old) (C.left input.new) (S.written output.old)
+        ⊎ IsOutcome (map U.unit_state units.items) (texts_of words.now) (C.left input.old) (C.left input.new) (S.written output.old)
         (S.written output.new) (beyond (F.state files.old).files (L.state lines.old) whole)
         (beyond (F.state files.new).files (L.state lines.new) whole) result.status result.machine
         (notes_said result.faults.items) }
-    ensures memory { InputTells (texts_of words.now) C.tells → ProgramTold F.tells L.tells (texts_of words.now)
+    ensures memory { InputTells (texts_of words.now) C.tells → ProgramTold F.tells L.tells (map U.unit_state units.items) (texts_of words.now)
         (C.left input.old) (F.state files.old).files (L.state lines.old) → IsTrue S.tells
         → result.status ≡ 103
         → (whole : List LineAnswer) → IsFirst (record_in (L.state lines.new).told) whole
-        → SaysNoMore L.tells (texts_of words.now) (C.left input.old) (C.left input.new) (S.written output.old)
+        → SaysNoMore L.tells (map U.unit_state units.items) (texts_of words.now) (C.left input.old) (C.left input.new) (S.written output.old)
         (S.written output.new) (beyond (F.state files.old).files (L.state lines.old) whole)
         (beyond (F.state files.new).files (L.state lines.new) whole) (notes_said result.faults.items)
-        ⊎ IsCutShort (texts_of words.now) (C.left input.old) (C.left input.new) (S.written output.old)
+        ⊎ IsCutShort (map U.unit_state units.items) (texts_of words.now) (C.left input.old) (C.left input.new) (S.written output.old)
         (S.written output.new) (beyond (F.state files.old).files (L.state lines.old) whole)
         (beyond (F.state files.new).files (L.state lines.new) whole) result.machine
         (notes_said result.faults.items) }
-    ensures complete { InputTells (texts_of words.now) C.tells → ProgramTold F.tells L.tells (texts_of words.now)
+    ensures complete { InputTells (texts_of words.now) C.tells → ProgramTold F.tells L.tells (map U.unit_state units.items) (texts_of words.now)
         (C.left input.old) (F.state files.old).files (L.state lines.old) → IsTrue S.tells
         → result.status ≢ 103 → (Rose (S.fault_count output.old) (S.fault_count output.new) → ⊥)
         → (Rose (C.fault_count input.old) (C.fault_count input.new) → ⊥)
         → NoneFailed (F.state files.old) (F.state files.new)
         → (whole : List LineAnswer) → IsFirst (record_in (L.state lines.new).told) whole
-        → SaysNoMore L.tells (texts_of words.now) (C.left input.old) (C.left input.new) (S.written output.old)
+        → SaysNoMore L.tells (map U.unit_state units.items) (texts_of words.now) (C.left input.old) (C.left input.new) (S.written output.old)
         (S.written output.new) (beyond (F.state files.old).files (L.state lines.old) whole)
         (beyond (F.state files.new).files (L.state lines.new) whole) []
-        ⊎ IsComplete (texts_of words.now) (C.left input.old) (C.left input.new) (S.written output.old)
+        ⊎ IsComplete (map U.unit_state units.items) (texts_of words.now) (C.left input.old) (C.left input.new) (S.written output.old)
         (S.written output.new) (beyond (F.state files.old).files (L.state lines.old) whole)
         (beyond (F.state files.new).files (L.state lines.new) whole) result.status result.machine }
-    ensures resumed { InputTells (texts_of words.now) C.tells → ProgramTold F.tells L.tells (texts_of words.now)
+    ensures resumed { InputTells (texts_of words.now) C.tells → ProgramTold F.tells L.tells (map U.unit_state units.items) (texts_of words.now)
         (C.left input.old) (F.state files.old).files (L.state lines.old) → IsTrue S.tells
         → result.status ≢ 102 → result.status ≢ 103 → result.status ≢ 106
         → (whole : List LineAnswer) → IsFirst (record_in (L.state lines.new).told) whole
-        → SaysNoMore L.tells (texts_of words.now) (C.left input.old) (C.left input.new) (S.written output.old)
+        → SaysNoMore L.tells (map U.unit_state units.items) (texts_of words.now) (C.left input.old) (C.left input.new) (S.written output.old)
         (S.written output.new) (beyond (F.state files.old).files (L.state lines.old) whole)
         (beyond (F.state files.new).files (L.state lines.new) whole) (notes_said result.faults.items)
-        ⊎ ResumesSaved (texts_of words.now) (C.left input.old) (C.left input.new) (S.written output.old)
+        ⊎ ResumesSaved (map U.unit_state units.items) (texts_of words.now) (C.left input.old) (C.left input.new) (S.written output.old)
         (S.written output.new) (beyond (F.state files.old).files (L.state lines.old) whole)
         (beyond (F.state files.new).files (L.state lines.new) whole) result.status result.machine
         (notes_said result.faults.items) }
-    ensures ports { LinesAtEnd result.machine (L.state lines.old) (L.state lines.new) }
+    ensures ports { LinesAtEnd (map U.unit_state units.items) result.machine (L.state lines.old) (L.state lines.new) }
     ensures cause { StatusCause (texts_of words.now) result.status (S.fault_count output.old) (S.fault_count output.new)
         (C.fault_count input.old) (C.fault_count input.new) }
     ensures unopened { result.status ≡ 101 → IsUnopened F.tells (texts_of words.now) result.faults.items
@@ -275,7 +275,7 @@ fn run_session<U: Unit, C: Source, S: Sink, F: Files, L: Lines>(
     requires standard { AreStandard session.machine.units }
     requires open { AllOpen session.machine.slots (F.state files.old).opened }
     requires bare { session.machine.slots ≡ no_files }
-    requires lines { session.machine.lines ≡ lines_for standard_units }
+    requires lines { session.machine.lines ≡ lines_for session.machine.units }
     ensures ended { SessionEnds result.status result.machine
         (λ finish watch now. (opening.now.reads ≡ true → IsTrue C.tells)
         → CourseTold F.tells L.tells (λ whole notes. beginning session
@@ -296,7 +296,7 @@ fn run_session<U: Unit, C: Source, S: Sink, F: Files, L: Lines>(
         (notes_said session.notes) (notes_said result.faults.items))
         (λ finish. FinishCause finish (S.fault_count output.old) (S.fault_count output.new) (C.fault_count input.old)
         (C.fault_count input.new)) }
-    ensures ports { LinesAtEnd result.machine (L.state lines.old) (L.state lines.new) }
+    ensures ports { LinesAtEnd session.machine.units result.machine (L.state lines.old) (L.state lines.new) }
     ensures keeps { AreKeptFor F.tells opening.now.budget session.notes result.faults.items (F.state files.old)
         (F.state files.new) }
     ensures whose { (slots : List (Option Held))

@@ -1,5 +1,4 @@
 -- The forms of words are decided by their functions.
-use Rattle.std.proofs.Common.{◌≡◌, ℕ, true, Option}
 use Rattle.operand_forms.specs.declared.listing.Name.{Name}
 use Rattle.operand_forms.specs.Forms.{IsOctal, IsDecimal, IsItem, IsList, IsCondition, IsDevice, IsUnit}
 use Rattle.operand_forms.specs.Operands.{octal, decimal, item_of, items_of, condition_of, device_of, unit_of}

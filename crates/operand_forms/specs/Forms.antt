@@ -1,5 +1,5 @@
 -- The forms of the words of a line: numbers, names, items, conditions, devices and units.
-use Rattle.std.specs.Prelude.{◌≡◌, ◌⊎◌, ℕ, ◌+◌, ◌-◌, ◌<◌, ◌≤◌, ◌^◌, All, List, [], ◌∷◌, ◌++◌, length, codes, nat_le, slice_get, Option, Some, None, Contains, if◌then◌else◌}
+use Rattle.std.specs.Prelude.{◌≡◌, ◌⊎◌, ℕ, ◌+◌, ◌-◌, ◌<◌, ◌≤◌, ◌^◌, All, List, [], ◌∷◌, ◌++◌, length, codes, nat_le, slice_get, Some, None, Contains, if◌then◌else◌}
 use Rattle.nova_word.specs.Numbers.{IsDigit, IsNumber}
 use Rattle.unit_trait.specs.declared.kind.Kind.{Kind}
 use Rattle.unit_trait.specs.declared.kind.Kind.TheVariants.{Mta}
@@ -95,7 +95,8 @@ pub record IsKind (kinds : List Kind) (text : List ℕ) (kind : Kind) : Type 0 w
 abbrev pub IsDevice : List ℕ → Kind → Type 0
 IsDevice text kind = IsKind device_kinds text kind
 
--- a unit that a command may name; the tape's name alone is its first drive
+-- a unit that a command may name; the tape's name alone is its first drive, and that of the multiplexer, which stands
+-- for all its lines, is its unit 0
 pub data IsUnit : List ℕ → UnitName → Type 0 where
   alone : (text : List ℕ) (kind : Kind) → IsKind unit_kinds text kind → IsUnit text (record { kind = kind; unit = 0 })
   drive : (text : List ℕ) (n : ℕ) → n < 8 → IsSpelled text (codes "MTA" ++ (48 + n) ∷ []) → IsUnit text (record { kind = Mta; unit = n })

@@ -1,5 +1,5 @@
 -- The forms of words as functions: what a word stands for, if it has the form.
-use Rattle.std.specs.Prelude.{ℕ, ◌-◌, ◌==◌, zero, suc, Bool, true, false, ◌&&◌, ◌||◌, nat_le, nat_lt, List, [], ◌∷◌, length, take, drop, codes, Option, Some, None, option_map, Result, Ok, Err, if◌then◌else◌}
+use Rattle.std.specs.Prelude.{ℕ, ◌-◌, ◌==◌, zero, suc, Bool, false, ◌&&◌, ◌||◌, nat_le, nat_lt, List, [], ◌∷◌, length, take, drop, codes, Option, Some, None, option_map, Result, Ok, Err, if◌then◌else◌}
 use Rattle.std.specs.List.{list_all, before_first, after_first, position, position_or_len}
 use Rattle.nova_word.specs.declared.numbers.NumberFault.{NumberFault}
 use Rattle.nova_word.specs.declared.numbers.NumberFault.TheVariants.{TooLarge}

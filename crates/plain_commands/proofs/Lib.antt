@@ -8,4 +8,5 @@ pub mod QueueLemmas
 pub mod QuotedLemmas
 pub mod ScriptLemmas
 pub mod ShowLemmas
+pub mod PortShows
 pub mod WatchLines

@@ -1,7 +1,6 @@
 -- SHOW speaks of no file's number.
-use Rattle.std.proofs.Common.{slice_get, ◌≡◌, ◌∙◌, ℕ, Bool, true, false, IsTrue, List, [], ◌∷◌, ◌++◌, codes, decimal, option_map, append_assoc, append-nil, Option, Some, None, Result, Err, refl, ap, sym, subst, if◌then◌else◌}
+use Rattle.std.proofs.Common.{◌≡◌, ◌∙◌, ℕ, Bool, true, false, IsTrue, List, [], ◌∷◌, ◌++◌, codes, option_map, append_assoc, Option, Some, None, Result, Err, refl, ap, sym, subst, if◌then◌else◌}
 use Rattle.std.proofs.Math.ListN.{get_or-map}
-use Rattle.std.proofs.lemmas.Option.{slice_get-map}
 use Rattle.file_traits.specs.Streams.{Puts}
 use Rattle.unit_trait.specs.declared.kind.UnitName.{UnitName}
 use Rattle.unit_files.specs.Attachments.{Attachment, Held, file_place, held_at, read_only_of, read_only_at, attachments_of, attachment_at}
@@ -14,11 +13,7 @@ use Rattle.command_session.specs.declared.next.Next.TheVariants.{Go}
 use Rattle.command_session.specs.declared.fault.CommandFault.TheVariants.{NoSuchName}
 use Rattle.command_session.specs.Live.{standing, Beyond}
 use Rattle.command_session.specs.Reply.{Answer, says, refused}
-use Rattle.host_lines.specs.State.{parties}
-use Rattle.host_lines.specs.Traffic.{Peer}
-use Rattle.telnet_lines.specs.Line.{LineOf}
-use Rattle.telnet_lines.specs.Joined.{seen_line}
-use Rattle.command_session.specs.LineEffects.{is_terminal, terminal_place, terminal_line, port_text, line_text, show_line}
+use Rattle.command_session.specs.LineEffects.{is_terminal, show_ports}
 use Rattle.command_session.specs.FileEffects.{lacks_unit, attachment_text, unit_line, unit_text}
 use Rattle.plain_commands.specs.WatchTexts.{breaks_text, expects_text, sends_text}
 use Rattle.plain_commands.specs.ShowEffects.{time_text, cpu_text, version_text, queue_text, show_reply}
@@ -99,47 +94,21 @@ pub unit-refused : (m : MachineState) (watch : WatchState) (keys : List (ℕ × 
 unfolding show_reply
 unit-refused m watch keys files unit tells text other lacks =
     let live = seen (beside watch keys files.files files.lines) files.whole m in
-    subst (λ (b : Bool). Does (if b then show_line (terminal_line live.lines) live else if lacks_unit m unit then refused NoSuchName live else says (unit_text live.machine unit) live) (Err NoSuchName) (standing 0 live) tells text text)
+    subst (λ (b : Bool). Does (if b then show_ports unit.kind live else if lacks_unit m unit then refused NoSuchName live else says (unit_text live.machine unit) live) (Err NoSuchName) (standing 0 live) tells text text)
     (sym other)
     (subst (λ (b : Bool). Does (if b then refused NoSuchName live else says (unit_text live.machine unit) live) (Err NoSuchName) (standing 0 live) tells text text)
     (sym lacks) (refl, refused-said NoSuchName live tells text))
 
--- the second teletype
+-- a unit that has ports in place of a file
 pub terminal-does : (m : MachineState) (watch : WatchState) (keys : List (ℕ × ℕ)) (files : Beyond) (unit : UnitName) (answer : Answer) (tells : Bool) (before after : Output)
     → is_terminal unit ≡ true
-    → Does (show_line (terminal_line (seen (beside watch keys files.files files.lines) files.whole m).lines) (seen (beside watch keys files.files files.lines) files.whole m)) answer (standing 0 (seen (beside watch keys files.files files.lines) files.whole m)) tells before after
+    → Does (show_ports unit.kind (seen (beside watch keys files.files files.lines) files.whole m)) answer (standing 0 (seen (beside watch keys files.files files.lines) files.whole m)) tells before after
     → Does (show_reply (seen (beside watch keys files.files files.lines) files.whole m) (AUnit unit)) answer (standing 0 (seen (beside watch keys files.files files.lines) files.whole m)) tells before after
 unfolding show_reply
 terminal-does m watch keys files unit answer tells before after is does =
     let live = seen (beside watch keys files.files files.lines) files.whole m in
-    subst (λ (b : Bool). Does (if b then show_line (terminal_line live.lines) live else if lacks_unit m unit then refused NoSuchName live else says (unit_text live.machine unit) live) answer (standing 0 live) tells before after)
+    subst (λ (b : Bool). Does (if b then show_ports unit.kind live else if lacks_unit m unit then refused NoSuchName live else says (unit_text live.machine unit) live) answer (standing 0 live) tells before after)
     (sym is) does
-
--- its line, by what is seen of it
-pub line-shown : {T E : Type 0} (line : LineOf ℕ) (m : MachineState) (watch : WatchState) (keys : List (ℕ × ℕ)) (files : Beyond) (printed : Result T E) (answer : Answer) (tells : Bool) (before after : Output)
-    → slice_get m.lines terminal_place ≡ Some line → answer ≡ told_or_console printed Go → (IsTrue tells → Puts before.console (line_text line) printed after.console) → after.heard ≡ before.heard
-    → Does (show_line (terminal_line (seen (beside watch keys files.files files.lines) files.whole m).lines) (seen (beside watch keys files.files files.lines) files.whole m)) answer (standing 0 (seen (beside watch keys files.files files.lines) files.whole m)) tells before after
-line-shown line m watch keys files printed answer tells before after is said puts quiet =
-    let live = seen (beside watch keys files.files files.lines) files.whole m in
-    let same : line_text (seen_line files.lines line) ≡ line_text line = same-text line.port line.connection in
-    subst (λ (o : Option (LineOf Peer)). Does (show_line o live) answer (standing 0 live) tells before after)
-    (sym (slice_get-map (seen_line files.lines) m.lines terminal_place ∙ ap (option_map (seen_line files.lines)) is))
-    (subst (λ (text : List ℕ). Does (says text live) answer (standing 0 live) tells before after) (sym same)
-    (says-does (line_text line) live printed answer tells before after said puts quiet))
-  where
-    same-text : (port connection : Option ℕ) → codes "TTI1" ++ port_text port (option_map (parties files.lines) connection) ++ 10 ∷ [] ≡ codes "TTI1" ++ port_text port connection ++ 10 ∷ []
-    same-text None None = refl
-    same-text None (Some conn) = refl
-    same-text (Some port) None = refl
-    same-text (Some port) (Some conn) = refl
-
-pub no-line-shown : (m : MachineState) (watch : WatchState) (keys : List (ℕ × ℕ)) (files : Beyond) (tells : Bool) (text : Output) → slice_get m.lines terminal_place ≡ None
-    → Does (show_line (terminal_line (seen (beside watch keys files.files files.lines) files.whole m).lines) (seen (beside watch keys files.files files.lines) files.whole m)) (Err NoSuchName) (standing 0 (seen (beside watch keys files.files files.lines) files.whole m)) tells text text
-no-line-shown m watch keys files tells text none =
-    let live = seen (beside watch keys files.files files.lines) files.whole m in
-    subst (λ (o : Option (LineOf Peer)). Does (show_line o live) (Err NoSuchName) (standing 0 live) tells text text)
-    (sym (slice_get-map (seen_line files.lines) m.lines terminal_place ∙ ap (option_map (seen_line files.lines)) none))
-    (refl, refused-said NoSuchName live tells text)
 
 pub unit-does : {T E : Type 0} (m : MachineState) (watch : WatchState) (keys : List (ℕ × ℕ)) (files : Beyond) (unit : UnitName) (printed : Result T E) (answer : Answer) (tells : Bool) (before after : Output)
     → is_terminal unit ≡ false → lacks_unit m unit ≡ false → answer ≡ told_or_console printed Go → (IsTrue tells → Puts before.console (unit_line unit (attachment_at (attachments_of m.slots) unit)) printed after.console) → after.heard ≡ before.heard
@@ -147,24 +116,8 @@ pub unit-does : {T E : Type 0} (m : MachineState) (watch : WatchState) (keys : L
 unfolding show_reply
 unit-does m watch keys files unit printed answer tells before after other has is puts quiet =
     let live = seen (beside watch keys files.files files.lines) files.whole m in
-    subst (λ (b : Bool). Does (if b then show_line (terminal_line live.lines) live else if lacks_unit m unit then refused NoSuchName live else says (unit_text live.machine unit) live) answer (standing 0 live) tells before after)
+    subst (λ (b : Bool). Does (if b then show_ports unit.kind live else if lacks_unit m unit then refused NoSuchName live else says (unit_text live.machine unit) live) answer (standing 0 live) tells before after)
     (sym other)
     (subst (λ (b : Bool). Does (if b then refused NoSuchName live else says (unit_text live.machine unit) live) answer (standing 0 live) tells before after) (sym has)
     (subst (λ (l : List (Option Attachment)). Does (says (unit_line unit (attachment_at l unit)) live) answer (standing 0 live) tells before after) (sym (unnumbered-attachments m.slots))
     (says-does (unit_line unit (attachment_at (attachments_of m.slots) unit)) live printed answer tells before after is puts quiet)))
-
--- the text of a terminal line, by its port and whether somebody is connected
-pub text-free : (line : LineOf ℕ) → line.port ≡ None → line_text line ≡ codes "TTI1, not attached" ++ 10 ∷ []
-text-free line none = ap (λ (p : Option ℕ). codes "TTI1" ++ port_text p line.connection ++ 10 ∷ []) none
-
-pub text-listening : (line : LineOf ℕ) (port : ℕ) → line.port ≡ Some port → line.connection ≡ None → line_text line ≡ codes "TTI1, listening on port " ++ decimal port ++ 10 ∷ []
-text-listening line port has none =
-    ap (λ (p : Option ℕ). codes "TTI1" ++ port_text p line.connection ++ 10 ∷ []) has
-    ∙ ap (λ (c : Option ℕ). codes "TTI1" ++ port_text (Some port) c ++ 10 ∷ []) none
-    ∙ ap (λ (t : List ℕ). codes "TTI1, listening on port " ++ t ++ 10 ∷ []) (append-nil (decimal port))
-
-pub text-connected : (line : LineOf ℕ) (port conn : ℕ) → line.port ≡ Some port → line.connection ≡ Some conn
-    → line_text line ≡ codes "TTI1, listening on port " ++ decimal port ++ codes ", connected" ++ 10 ∷ []
-text-connected line port conn has stands =
-    ap (λ (p : Option ℕ). codes "TTI1" ++ port_text p line.connection ++ 10 ∷ []) has
-    ∙ ap (λ (c : Option ℕ). codes "TTI1" ++ port_text (Some port) c ++ 10 ∷ []) stands

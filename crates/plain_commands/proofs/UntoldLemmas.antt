@@ -3,6 +3,8 @@ use Rattle.std.proofs.Common.{◌≡◌, ℕ, Bool, true, false, List, [], ◌+�
 use Rattle.nova_memory.specs.Memory.{fits_size}
 use Rattle.nova_machine.specs.declared.machine.Stop.TheVariants.{FileFault}
 use Rattle.nova_machine.specs.Machine.{MachineState, attached_files, reset_devices, reset_machine}
+use Rattle.unit_trait.specs.declared.kind.Kind.{Kind}
+use Rattle.unit_trait.specs.declared.kind.Kind.TheVariants.{Qty}
 use Rattle.scp_parser.specs.declared.command.Shown.{Shown}
 use Rattle.scp_parser.specs.declared.command.Shown.TheVariants as shown
 use Rattle.operand_forms.specs.declared.listing.Listing.{Listing}
@@ -24,7 +26,7 @@ use Rattle.expect_actions.specs.Watch.{WatchState}
 use Rattle.command_session.specs.Reply.{Answer, Reply, goes}
 use Rattle.command_session.specs.RunEffects.{reset_reply}
 use Rattle.plain_commands.specs.ListEffects.{lacks_device, examine_after, examine_reply, handed, deposit_after, deposit_reply}
-use Rattle.command_session.specs.LineEffects.{is_terminal, terminal_line, show_line}
+use Rattle.command_session.specs.LineEffects.{is_terminal, row_for, has_row, terminal_line, show_line, show_ports}
 use Rattle.command_session.specs.FileEffects.{lacks_unit}
 use Rattle.command_session.specs.RunEffects.{last_address}
 use Rattle.command_session.specs.WatchEffects.{largest_count, text_of_quoted, lacks_room_for_break, can_be_expected}
@@ -129,11 +131,15 @@ show-no-file live shown.Expect = tt
 show-no-file live shown.Send = tt
 show-no-file live shown.Version = tt
 show-no-file live (shown.Unit unit) =
-    no-file-if (is_terminal unit) _ _ (by-line (terminal_line live.lines)) (no-file-if (lacks_unit live.machine unit) _ _ tt tt)
+    no-file-if (is_terminal unit) _ _ (by-ports unit.kind) (no-file-if (lacks_unit live.machine unit) _ _ tt tt)
   where
     by-line : (line : Option (LineOf Peer)) → IsOfNoFile (show_line line live).answer
     by-line None = tt
     by-line (Some line) = tt
+
+    by-ports : (kind : Kind) → IsOfNoFile (show_ports kind live).answer
+    by-ports Qty = no-file-if (has_row (row_for Qty) live.lines) _ _ tt tt
+    by-ports kind = by-line (terminal_line live.lines)
 
 pub break-no-file : (live : Live) (at count : ℕ) (actions : List ℕ) → IsOfNoFile (break_reply live at count actions).answer
 unfolding break_reply

@@ -10,7 +10,7 @@ use Rattle.command_session.specs.declared.fault.CommandFault.TheVariants.{NoSuch
 use Rattle.command_session.specs.Live.{Live}
 use Rattle.command_session.specs.Reply.{Reply, says, refused}
 use Rattle.command_session.specs.FileEffects.{lacks_unit, unit_text}
-use Rattle.command_session.specs.LineEffects.{is_terminal, terminal_line, show_line}
+use Rattle.command_session.specs.LineEffects.{is_terminal, show_ports}
 use Rattle.plain_commands.specs.WatchTexts.{breaks_text, expects_text, sends_text}
 
 -- what SHOW TIME prints
@@ -43,10 +43,10 @@ unfoldable pub queue_text : List Event → List ℕ
 queue_text [] = []
 queue_text (e ∷ events) = event_line e ++ queue_text events
 
--- SHOW of the second teletype tells its port, and that of another unit its file; of one that has none here it is not built
+-- SHOW of the second teletype and of the multiplexer tells their ports, and that of another unit its file; of one that has none here it is not built
 abbrev pub show_unit : Live → UnitName → Reply
 show_unit live unit =
-    if is_terminal unit then show_line (terminal_line live.lines) live
+    if is_terminal unit then show_ports unit.kind live
     else if lacks_unit live.machine unit then refused NoSuchName live
     else says (unit_text live.machine unit) live
 

@@ -9,6 +9,7 @@ mod reset_command;
 mod script_commands;
 mod set_command;
 mod show_command;
+mod show_ports;
 mod show_watch;
 mod untold_commands;
 mod watch_commands;

@@ -13,20 +13,19 @@ ghost use Rattle.host_lines.specs.Told.{Heard};
 ghost use Rattle.nova_machine.specs.Comes.{output};
 ghost use Rattle.command_session.specs.Live.{standing, live_in, Beyond};
 ghost use Rattle.command_session.specs.FileEffects.{attachment_text, unit_line};
-ghost use Rattle.command_session.specs.LineEffects.{is_terminal, terminal_line, line_text, show_line};
 ghost use Rattle.plain_commands.specs.ShowEffects.{time_text, rule_text, cpu_text, version_text, event_line, queue_text, show_reply};
 ghost use Rattle.command_session.specs.Doing.{Does, ConsoleCounts, IsShown, IsExitAnswer};
 
+use crate::show_ports::show_ports;
 use crate::show_watch::{put_breaks, put_expects, put_sends};
 use command_session::{
-    CommandFault, Next, Session, TERMINAL, is_terminal, lacks_unit, told_or_console, unit_name,
+    CommandFault, Next, Session, is_terminal, lacks_unit, told_or_console, unit_name,
 };
 use event_queue::Events;
 use file_traits::{Failed, Sink, put_all, put_pieces};
 use itoa::Buffer;
 use nova_machine::Machine;
 use scp_parser::Shown;
-use telnet_lines::Line;
 use unit_files::Attached;
 use unit_trait::{Unit, UnitName};
 
@@ -78,84 +77,7 @@ pub fn show<U: Unit, S: Sink>(
     }
 }
 
-// SHOW of the second teletype prints its port.
-fn show_terminal<U: Unit, S: Sink>(machine: &Machine<U>, out: &mut S) -> Result<Next, CommandFault>
-    ensures told { (watch : WatchState) (keys : List (ℕ × ℕ)) (files : Beyond) (heard : Heard)
-        → Does (show_line (terminal_line (seen (beside watch keys files.files files.lines) files.whole machine.now).lines)
-        (seen (beside watch keys files.files files.lines) files.whole machine.now)) result
-        (standing 0 (seen (beside watch keys files.files files.lines) files.whole machine.now)) S.tells
-        (output (S.written out.old) heard) (output (S.written out.new) heard) }
-    ensures counts { ConsoleCounts result (S.fault_count out.old) (S.fault_count out.new) }
-    ensures own { IsShown result }
-    ensures exit { IsExitAnswer result }
-{
-    match machine.line_at(TERMINAL) {
-        None => Err(CommandFault::NoSuchName),
-        Some(line) => {
-            let printed = put_line(line, out);
-            told_or_console(printed, Next::Go)
-        }
-    }
-}
-
-// Prints the text of a terminal line: its port, if it has one, in decimal, and whether somebody is connected.
-fn put_line<S: Sink>(line: &Line, out: &mut S) -> Result<(), Failed>
-    ensures told { IsTrue S.tells
-        → Puts (S.written out.old) (line_text line.now) result (S.written out.new) }
-    ensures counts { CountsFault (S.fault_count out.old) (S.fault_count out.new) result }
-{
-    match (line.port(), line.connection()) {
-        (None, _) => put_unported(out),
-        (Some(port), None) => put_listening(port, out),
-        (Some(port), Some(_)) => put_connected(port, out),
-    }
-}
-
-// Prints that there is no port.
-fn put_unported<S: Sink>(out: &mut S) -> Result<(), Failed>
-    ensures told { IsTrue S.tells
-        → Puts (S.written out.old) (codes "TTI1, not attached" ++ 10 ∷ []) result (S.written out.new) }
-    ensures counts { CountsFault (S.fault_count out.old) (S.fault_count out.new) result }
-{
-    put_all(out, b"TTI1, not attached\n")
-}
-
-// Prints a port that is listened on.
-fn put_listening<S: Sink>(port: u16, out: &mut S) -> Result<(), Failed>
-    ensures told { IsTrue S.tells → Puts (S.written out.old)
-        (codes "TTI1, listening on port " ++ decimal port ++ 10 ∷ []) result (S.written out.new) }
-    ensures counts { CountsFault (S.fault_count out.old) (S.fault_count out.new) result }
-{
-    let mut buffer = Buffer::new();
-    put_pieces(
-        out,
-        &[
-            b"TTI1, listening on port ",
-            buffer.format(port).as_bytes(),
-            b"\n",
-        ],
-    )
-}
-
-// Prints a port to which somebody is connected.
-fn put_connected<S: Sink>(port: u16, out: &mut S) -> Result<(), Failed>
-    ensures told { IsTrue S.tells → Puts (S.written out.old)
-        (codes "TTI1, listening on port " ++ decimal port ++ codes ", connected" ++ 10 ∷ []) result
-        (S.written out.new) }
-    ensures counts { CountsFault (S.fault_count out.old) (S.fault_count out.new) result }
-{
-    let mut buffer = Buffer::new();
-    put_pieces(
-        out,
-        &[
-            b"TTI1, listening on port ",
-            buffer.format(port).as_bytes(),
-            b", connected\n",
-        ],
-    )
-}
-
-// SHOW of a unit prints what is attached to it, or the port of the second teletype.
+// SHOW of a unit prints what is attached to it, or the ports of its lines.
 fn show_unit<U: Unit, S: Sink>(
     machine: &Machine<U>,
     unit: UnitName,
@@ -171,7 +93,7 @@ fn show_unit<U: Unit, S: Sink>(
     ensures exit { IsExitAnswer result }
 {
     if is_terminal(unit) {
-        return show_terminal(machine, out);
+        return show_ports(machine, unit.kind, out);
     }
     if lacks_unit(machine, unit) {
         return Err(CommandFault::NoSuchName);

@@ -13,18 +13,18 @@ use Rattle.program_laws.specs.Resumption.{Ran, IsRun, EndAlike, RestoredPrograms
 use Rattle.nova_top.proofs.ResumptionLemmas.{ends-behind, begins-valid, begins-held, resumes-saved}
 
 alike : (one other : Ran) (front begin : List (Observation State)) (saving behind restoring present : Session) (name : List ℕ) (used : ℕ) → IsRun one → IsRun other
-    → Reaches one.words one.input one.old one.notes front saving → Reaches other.words other.input other.old other.notes begin restoring
+    → Reaches one.units one.words one.input one.old one.notes front saving → Reaches other.units other.words other.input other.old other.notes begin restoring
     → SavedAndRestored saving behind restoring present name used → EndAlike (front ++ asking saving) (begin ++ asking restoring) one other
 alike one other front begin saving behind restoring present name used first second reaches comes both =
     let s = (behind_save name behind).live in
-    let start = opening one.words reaches.options reaches.keys reaches.script one.old.files (ahead_of one.old.lines.told one.old.whole) one.input (drop reaches.used one.notes) in
-    let other_start = opening other.words comes.options comes.keys comes.script other.old.files (ahead_of other.old.lines.told other.old.whole) other.input (drop comes.used other.notes) in
-    let valid = sessions-stay-valid.all reaches.count start saving front (begins-valid one.words one.input one.old one.notes front saving first.handed reaches) reaches.comes in
-    let fresh = sessions-stay-valid.all comes.count other_start restoring begin (begins-valid other.words other.input other.old other.notes begin restoring second.handed comes) comes.comes in
-    let held = sessions-stay-valid.disk_all reaches.count start saving front (begins-valid one.words one.input one.old one.notes front saving first.handed reaches) (begins-held one.words one.input one.old one.notes front saving first.handed reaches) reaches.comes in
-    let a = ends-behind one.words one.input one.left one.before one.after one.old one.new one.status one.machine one.notes reaches.options reaches.keys reaches.script reaches.used (suc reaches.count) (front ++ asking saving) (behind_save name behind)
+    let start = opening one.units one.words reaches.options reaches.keys reaches.script one.old.files (ahead_of one.old.lines.told one.old.whole) one.input (drop reaches.used one.notes) in
+    let other_start = opening other.units other.words comes.options comes.keys comes.script other.old.files (ahead_of other.old.lines.told other.old.whole) other.input (drop comes.used other.notes) in
+    let valid = sessions-stay-valid.all reaches.count start saving front (begins-valid one.units one.words one.input one.old one.notes front saving first.standard first.handed reaches) reaches.comes in
+    let fresh = sessions-stay-valid.all comes.count other_start restoring begin (begins-valid other.units other.words other.input other.old other.notes begin restoring second.standard second.handed comes) comes.comes in
+    let held = sessions-stay-valid.disk_all reaches.count start saving front (begins-valid one.units one.words one.input one.old one.notes front saving first.standard first.handed reaches) (begins-held one.units one.words one.input one.old one.notes front saving first.standard first.handed reaches) reaches.comes in
+    let a = ends-behind one.units one.words one.input one.left one.before one.after one.old one.new one.status one.machine one.notes reaches.options reaches.keys reaches.script reaches.used (suc reaches.count) (front ++ asking saving) (behind_save name behind)
     first.outcome first.no_byte first.no_read reaches.starts (saves-come reaches.count start saving behind name front reaches.comes both.saves both.goes) in
-    let b = resumes-saved other.words other.input other.left other.before other.after other.old other.new other.status other.machine other.notes second.outcome second.no_byte second.no_read begin restoring present s used second.handed comes
+    let b = resumes-saved other.units other.words other.input other.left other.before other.after other.old other.new other.status other.machine other.notes second.outcome second.standard second.no_byte second.no_read begin restoring present s used second.handed comes
     (saved-and-restored-go-on-alike.restores saving behind restoring present name used valid held fresh both) in
     let same = traces-saved saving behind restoring present name used both in
     record {
@@ -41,6 +41,6 @@ alike one other front begin saving behind restoring present name used first seco
 
 pub restored-programs-go-on : RestoredProgramsGoOn
 restored-programs-go-on = record {
-  restored = λ r run. resumes-saved r.words r.input r.left r.before r.after r.old r.new r.status r.machine r.notes run.outcome run.no_byte run.no_read;
+  restored = λ r run. resumes-saved r.units r.words r.input r.left r.before r.after r.old r.new r.status r.machine r.notes run.outcome run.standard run.no_byte run.no_read;
   alike = alike;
 }

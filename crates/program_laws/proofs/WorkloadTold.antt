@@ -5,8 +5,9 @@ use Rattle.std.proofs.lemmas.Bool.{cond_both}
 use Rattle.observations.specs.Observations.{Observation}
 use Rattle.file_traits.specs.Lists.{NamedBytes}
 use Rattle.file_commands.specs.Notes.{Note}
-use Rattle.host_lines.specs.Traffic.{Ahead}
+use Rattle.host_lines.specs.Traffic.{Peer, Gone, Ahead}
 use Rattle.host_lines.specs.Told.{ahead_of}
+use Rattle.telnet_lines.specs.Line.{LineOf, unconnected, renamed}
 use Rattle.line_text.specs.Words.{past_blanks, word_at}
 use Rattle.nova_word.specs.Numbers.{number_read}
 use Rattle.unit_files.specs.Attachments.{Held, file_units}
@@ -24,9 +25,10 @@ use Rattle.scp_parser.specs.Operands.{subject_of, symbolic_of}
 use Rattle.scp_parser.specs.Reading.{reading, verb_of, named, asks_nothing, next_word, operands, last_number, ended, examine, show, listing, choice}
 use Rattle.scp_examine.specs.declared.fault.ExamineFault.{ExamineFault}
 use Rattle.scp_examine.specs.Effect.{examine_fault}
+use Rattle.unit_trait.specs.Calls.{UnitState}
 use Rattle.nova_machine.specs.declared.machine.Stop.{Stop}
 use Rattle.nova_machine.specs.declared.machine.Stop.TheVariants.{Break, Expect}
-use Rattle.nova_machine.specs.Machine.{reset_devices, reset_machine, new_machine}
+use Rattle.nova_machine.specs.Machine.{line_count, reset_devices, reset_machine, new_machine}
 use Rattle.nova_machine.specs.Seen.{unnumbered}
 use Rattle.nova_machine.specs.Comes.{AreFree}
 use Rattle.nova_machine.specs.Run.{run}
@@ -182,21 +184,26 @@ no-files-free : (count : ℕ) → AreFree (map unnumbered (replicate {A = Option
 no-files-free zero = tt
 no-files-free (suc count) = (refl, no-files-free count)
 
-chosen-ready : (words : List (List ℕ)) (options : Options) (number : ℕ) (keys : List Key) (files : List NamedBytes) (ahead : Ahead) (input : List ℕ) (notes : List Note)
-    → IsReady (take 10 (script_words words options)) (opening words (record options { workload = Some number }) keys (Some workload_text) files ahead input notes)
+-- no line of a new machine has a port
+no-ports : (n : ℕ) → AllByRecursion (λ (port : Option ℕ). port ≡ None) (map (λ (line : LineOf Peer). line.port) (map (renamed {P = ℕ} {Q = Peer} (λ _. Gone)) (replicate {A = LineOf ℕ} n (unconnected None))))
+no-ports zero = tt
+no-ports (suc n) = (refl, no-ports n)
+
+chosen-ready : (units : List UnitState) (words : List (List ℕ)) (options : Options) (number : ℕ) (keys : List Key) (files : List NamedBytes) (ahead : Ahead) (input : List ℕ) (notes : List Note)
+    → IsReady (take 10 (script_words words options)) (opening units words (record options { workload = Some number }) keys (Some workload_text) files ahead input notes)
 unfolding session_with new_machine reset_machine reset_devices
-chosen-ready words options number keys files ahead input notes = record {
+chosen-ready units words options number keys files ahead input notes = record {
   has = record { unread = refl; actions = refl; scripts = refl };
   unwatched = empty-unwatched;
   free = no-files-free file_units;
-  none = (refl, (refl, tt));
+  none = no-ports (suc (line_count units));
 }
 
-opening-ready : (words : List (List ℕ)) (options : Options) (number : ℕ) (keys : List Key) (files : List NamedBytes) (ahead : Ahead) (input : List ℕ) (notes : List Note) → options.workload ≡ Some number
-    → IsReady (take 10 (script_words words options)) (opening words options keys (Some workload_text) files ahead input notes)
-opening-ready words options number keys files ahead input notes is =
-    subst (λ (w : Option ℕ). IsReady (take 10 (script_words words options)) (opening words (record options { workload = w }) keys (Some workload_text) files ahead input notes)) (sym is)
-    (chosen-ready words options number keys files ahead input notes)
+opening-ready : (units : List UnitState) (words : List (List ℕ)) (options : Options) (number : ℕ) (keys : List Key) (files : List NamedBytes) (ahead : Ahead) (input : List ℕ) (notes : List Note) → options.workload ≡ Some number
+    → IsReady (take 10 (script_words words options)) (opening units words options keys (Some workload_text) files ahead input notes)
+opening-ready units words options number keys files ahead input notes is =
+    subst (λ (w : Option ℕ). IsReady (take 10 (script_words words options)) (opening units words (record options { workload = w }) keys (Some workload_text) files ahead input notes)) (sym is)
+    (chosen-ready units words options number keys files ahead input notes)
 
 -- a program that begins does so with the options of its words, and with the commands of the workload, where there is one
 record BeginsWith (chosen options : Options) (script : Option (List ℕ)) : Type 0 where
@@ -216,9 +223,9 @@ some-number : (o : Option ℕ) → IsSome o → (number : ℕ) × (o ≡ Some nu
 some-number None some = absurd (cc)
 some-number (Some number) some = (number, refl)
 
-reached-told : (files lines : Bool) (words : List (List ℕ)) (input : List ℕ) (old : Beyond) (notes : List Note) (front : List (Observation State)) (at : Session) → HasWorkload words
-    → Reaches words input old notes front at → NextTold files lines at
-reached-told files lines words input old notes front at work reaches =
+reached-told : (files lines : Bool) (units : List UnitState) (words : List (List ℕ)) (input : List ℕ) (old : Beyond) (notes : List Note) (front : List (Observation State)) (at : Session) → HasWorkload words
+    → Reaches units words input old notes front at → NextTold files lines at
+reached-told files lines units words input old notes front at work reaches =
     let chosen = work.options in
     let ahead = ahead_of old.lines.told old.whole in
     let number = some-number chosen.workload work.given in
@@ -226,20 +233,20 @@ reached-told files lines words input old notes front at work reaches =
     let keys = taken_keys (keys_name words chosen) old.files notes in
     let begins = begins-with chosen reaches.options reaches.keys reaches.script reaches.used keys (taken_script (script_name words chosen) old.files (drop keys.1 notes)) starts in
     let script : reaches.script ≡ Some workload_text = begins.is ∙ ap (λ (w : Option ℕ). first_text w begins.own) number.1 in
-    let start : Options → Option (List ℕ) → Session = λ options text. opening words options reaches.keys text old.files ahead input (drop reaches.used notes) in
+    let start : Options → Option (List ℕ) → Session = λ options text. opening units words options reaches.keys text old.files ahead input (drop reaches.used notes) in
     let same : start reaches.options reaches.script ≡ start chosen (Some workload_text) = ap (λ (o : Options). start o reaches.script) begins.same ∙ ap (start chosen) script in
     let arguments = take 10 (script_words words chosen) in
-    let ready = opening-ready words chosen number.0 reaches.keys old.files ahead input (drop reaches.used notes) number.1 in
+    let ready = opening-ready units words chosen number.0 reaches.keys old.files ahead input (drop reaches.used notes) number.1 in
     let comes = subst (λ (s : Session). ComesTo reaches.count s front at) same reaches.comes in
     stands-told files lines arguments at (each-text (Stands arguments) (stands-next arguments) reaches.count (start chosen (Some workload_text)) at front (Runs ready) comes)
 
 pub workload-uses-nothing : WorkloadUsesNothing
-workload-uses-nothing files lines words input named outside work keys = record {
+workload-uses-nothing files lines units words input named outside work keys = record {
   names = λ some. elim some [
     | inl named ↦ keys named
     | inr script ↦ absurd (no-script words work script)
   ];
-  texts = λ whole notes front at reaches. reached-told files lines words input (beyond named outside whole) notes front at work reaches;
+  texts = λ whole notes front at reaches. reached-told files lines units words input (beyond named outside whole) notes front at work reaches;
 }
   where
     no-script : (words : List (List ℕ)) → HasWorkload words → HasScript words → ⊥

@@ -4,9 +4,10 @@ use Rattle.file_traits.specs.Lists.{NamedBytes}
 use Rattle.host_lines.specs.State.{LineState}
 use Rattle.nova_top.specs.Ends.{HasKeysFile, HasWorkload}
 use Rattle.nova_top.specs.Used.{ProgramTold}
+use Rattle.unit_trait.specs.Calls.{UnitState}
 
 -- Its commands use no file and no line, whatever these tell: only the keys file has to be told, where the words name one.
 abbrev pub WorkloadUsesNothing : Type 0
 WorkloadUsesNothing =
-    (files lines : Bool) (words : List (List ℕ)) (input : List ℕ) (named : List NamedBytes) (outside : LineState) → HasWorkload words → (HasKeysFile words → IsTrue files)
-    → ProgramTold files lines words input named outside
+    (files lines : Bool) (units : List UnitState) (words : List (List ℕ)) (input : List ℕ) (named : List NamedBytes) (outside : LineState) → HasWorkload words → (HasKeysFile words → IsTrue files)
+    → ProgramTold files lines units words input named outside

@@ -18,6 +18,8 @@ mod files;
 #[cfg(test)]
 mod in_turn;
 #[cfg(test)]
+mod multiplexer;
+#[cfg(test)]
 mod play;
 #[cfg(test)]
 mod row;

@@ -12,7 +12,7 @@ ghost use Rattle.command_words.specs.Standard.{IsStandard};
 use crate::callers::{lines_of, lines_stand};
 use crate::checked::holds;
 use crate::row::{Row, add, bytes, decimal, number, text};
-use crate::units::standard_units;
+use crate::units::{all_units, standard_units};
 use file_commands::{FaultNote, Subject};
 use host_files::{ByteSink, ByteSource, FileCall, Files, MemFiles, Sink, Source, next_byte};
 use host_lines::Lines;
@@ -36,6 +36,21 @@ pub fn all(rt: &impl Abort, alloc: Global, base: &str, table: &str) -> Result<()
 
 fn play(rt: &impl Abort, alloc: Global, row: Row<'_>) -> Result<(), AllocError> {
     let units = standard_units(alloc)?;
+    with_units(rt, alloc, units, row)
+}
+
+/// The same with the multiplexer behind these units.
+pub fn all_over_lines(rt: &impl Abort, alloc: Global, base: &str, table: &str) -> Result<(), Fail> {
+    for line in table.lines() {
+        if !line.starts_with(';') {
+            play_over_lines(rt, alloc, Row { base, line })?;
+        }
+    }
+    Ok(())
+}
+
+fn play_over_lines(rt: &impl Abort, alloc: Global, row: Row<'_>) -> Result<(), AllocError> {
+    let units = all_units(alloc)?;
     with_units(rt, alloc, units, row)
 }
 

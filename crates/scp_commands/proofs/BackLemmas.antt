@@ -1,8 +1,9 @@
 -- What a RESTORE that is done has put back.
 use Rattle.std.proofs.Common.{◌≡◌, ◌∙◌, ap, subst, ℕ, Bool, false, List, Ok, Err, OnOk}
 use Rattle.file_traits.specs.Lists.{NamedBytes}
+use Rattle.terminal_ports.specs.Rows.{with_ports}
 use Rattle.nova_machine.specs.Machine.{MachineState}
-use Rattle.state_transfer.specs.Ports.{assigned, with_ports}
+use Rattle.state_transfer.specs.Ports.{assigned}
 use Rattle.state_transfer.specs.PutBack.{misses_unit}
 use Rattle.state_transfer.specs.Putting.{with_machine_of}
 use Rattle.scp_parser.specs.Command.{Request, Restore}

@@ -1,6 +1,6 @@
 -- What holds of every command: it reads nothing, the status of an exit is small, and one that is refused has changed
 -- nothing but files.
-use Rattle.std.proofs.Common.{◌≡◌, inl, inr, ℕ, Bool, true, false, List, [], ◌∷◌, refl, sym, subst, ◌∙◌, drop, Option, Some, None, Result, Ok, Err, if◌then◌else◌, nat_le, nat_lt, not, ◌==◌, length, ◌+◌, ◌&&◌, ◌^◌, min, unwrap_or, arith, is_none, is_some}
+use Rattle.std.proofs.Common.{◌≡◌, inl, inr, ℕ, Bool, true, false, List, [], ◌∷◌, refl, sym, subst, ◌∙◌, drop, Option, Some, None, Result, Ok, Err, if◌then◌else◌, nat_le, nat_lt, not, ◌==◌, length, ◌+◌, ◌&&◌, ◌^◌, min, unwrap_or, arith, is_none}
 use Rattle.std.proofs.lemmas.Bool.{leb-true}
 use Rattle.observations.specs.Observations.{Prints, reads_of, map_made}
 use Rattle.observations.proofs.MadeLemmas.{reads_of-append, reads_of-map}
@@ -18,6 +18,7 @@ use Rattle.whole_files.specs.Whole.{WholeSaid, WholeIs, whole_act}
 use Rattle.whole_files.specs.Whole as whole
 use Rattle.file_commands.specs.Notes.{CommandNote, failure_now}
 use Rattle.nova_memory.specs.Memory.{fits_size}
+use Rattle.terminal_ports.specs.Listening.{rising, listening_each}
 use Rattle.nova_machine.specs.Seen.{attached_in}
 use Rattle.nova_machine.specs.Machine.{MachineState}
 use Rattle.nova_machine.specs.Run.{run}
@@ -50,17 +51,19 @@ use Rattle.command_session.specs.FileEffects.{detach_answer, detach_used, detach
 use Rattle.file_commands.specs.AllUnits.{Emptied}
 use Rattle.command_session.specs.declared.next.Next.{Next}
 use Rattle.unit_trait.specs.declared.kind.Kind.{Kind}
-use Rattle.host_lines.specs.Traffic.{Answer as LineAnswer, Peer, Replied, Quiet, Connected, Gave, HungUp, Failed, Took, listening}
+use Rattle.unit_trait.specs.declared.kind.Kind.TheVariants.{Qty}
+use Rattle.host_lines.specs.Traffic.{Answer as LineAnswer, Peer, Replied, Quiet, Connected, Gave, HungUp, Failed, Took}
 use Rattle.telnet_lines.specs.Line.{LineOf}
-use Rattle.command_session.specs.LineEffects.{is_terminal, terminal_place, terminal_line, is_port, listen_answer, listen_lines, listen_with, listen_free, attach_line, attach_port_reply}
-use Rattle.command_session.specs.LineEffects.{with_port, detach_port_reply, disconnect_reply, show_line}
+use Rattle.command_session.specs.declared.terminal.LineRow.{LineRow}
+use Rattle.command_session.specs.LineEffects.{is_terminal, row_for, has_row, terminal_line, unless_refused, attach_fault, listen_answer, listen_lines, listen_with, attach_port_reply}
+use Rattle.command_session.specs.LineEffects.{detach_fault, with_port, detach_port_reply, disconnect_reply, show_line, show_ports}
 use Rattle.plain_commands.specs.ShowEffects.{show_reply}
 use Rattle.command_session.specs.ExitEffects.{exit_reply}
 use Rattle.plain_commands.specs.SetEffects.{set_size_reply, set_autobit_reply}
 use Rattle.plain_commands.specs.ScriptEffects.{test_answer, echo_reply, assert_reply, goto_reply}
 use Rattle.host_commands.specs.DoEffects.{do_answer, do_reply}
 use Rattle.command_session.specs.WholeCalls.{whole_calls, write_calls, wrote_answer}
-use Rattle.state_commands.specs.StateEffects.{unit_claim, flushed_with, save_by, save_reply, listening_each, heard_live, listened_back, restored_by, unless_missing, restored_as, restored_from, restore_reply}
+use Rattle.state_commands.specs.StateEffects.{unit_claim, flushed_with, save_by, save_reply, heard_live, listened_back, restored_by, unless_missing, restored_as, restored_from, restore_reply}
 use Rattle.command_session.specs.Occupied.{is_occupied}
 use Rattle.state_text.specs.declared.fault.StateFault.{StateFault}
 use Rattle.state_transfer.specs.Ports.{ports_wanted}
@@ -274,22 +277,26 @@ fair-with_port : {W : CommandFault → Type 0} (line : Option (LineOf Peer)) (li
 fair-with_port None live after = fair-refused _ live
 fair-with_port (Some line) live after = fair-if (is_none line.port) live _ _ (fair-refused _ live) (fair-goes live after)
 
-fair-detach_port : {W : CommandFault → Type 0} (live : Live) → Fair false W live (detach_port_reply live)
+fair-unless : {W : CommandFault → Type 0} (fault : Option CommandFault) (reply : Reply) (live : Live) → Fair false W live reply → Fair false W live (unless_refused fault reply live)
+fair-unless None reply live fair = fair
+fair-unless (Some fault) reply live fair = fair-refused fault live
+
+fair-detach_port : {W : CommandFault → Type 0} (live : Live) (kind : Kind) → Fair false W live (detach_port_reply live kind)
 unfolding detach_port_reply
-fair-detach_port live = fair-with_port (terminal_line live.lines) live _
+fair-detach_port live kind = fair-unless (detach_fault (row_for kind) live.lines) _ live (fair-goes live _)
 
 fair-disconnect : {W : CommandFault → Type 0} (live : Live) → Fair false W live (disconnect_reply live)
 unfolding disconnect_reply
 fair-disconnect live = fair-with_port (terminal_line live.lines) live _
 
 -- a listening that failed leaves that it was made
-fair-listen_with : (kind : Kind) (place port given : ℕ) (said : Replied) (live : Live) → Fair false (LeavesTraces (request.AttachPort kind given)) live (listen_with said place port live)
-fair-listen_with kind place port given said live = by said.answer
+fair-listen_with : (kind : Kind) (row : LineRow) (port given : ℕ) (said : Replied) (live : Live) → Fair false (LeavesTraces (request.AttachPort kind given)) live (listen_with said row port live)
+fair-listen_with kind row port given said live = by said.answer
   where
     by : (answer : LineAnswer) → Fair false (LeavesTraces (request.AttachPort kind given)) live (record {
       made = [];
       answer = listen_answer answer;
-      after = standing 0 (record live { lines = listen_lines answer place port live.lines; ahead = said.ahead });
+      after = standing 0 (record live { lines = listen_lines answer row port live.lines; ahead = said.ahead });
     })
     by Failed = record {
       reads = refl;
@@ -305,24 +312,16 @@ fair-listen_with kind place port given said live = by said.answer
     by HungUp = record { reads = refl; exit = tt; untouched = λ other h. absurd (cc); all = λ other h none. absurd (cc) }
     by (Took count) = record { reads = refl; exit = tt; untouched = λ other h. absurd (cc); all = λ other h none. absurd (cc) }
 
-fair-listen_free : (kind : Kind) (place port : ℕ) (live : Live) → Fair false (LeavesTraces (request.AttachPort kind port)) live (listen_free place port live)
-fair-listen_free kind place port live =
-    fair-if _ live _ _ (fair-refused _ live) (fair-listen_with kind place port port (listening live.ahead) live)
-
-fair-attach_line : (kind : Kind) (line : Option (LineOf Peer)) (place port : ℕ) (live : Live) → Fair false (LeavesTraces (request.AttachPort kind port)) live (attach_line line place port live)
-fair-attach_line kind None place port live = fair-refused _ live
-fair-attach_line kind (Some line) place port live =
-    fair-if (is_some line.port) live _ _ (fair-refused _ live)
-    (fair-if (is_port port) live _ _ (fair-listen_free kind place port live) (fair-refused _ live))
-
-fair-attach_port : (kind : Kind) (live : Live) (port : ℕ) → Fair false (LeavesTraces (request.AttachPort kind port)) live (attach_port_reply live port)
+fair-attach_port : (live : Live) (kind : Kind) (port : ℕ) → Fair false (LeavesTraces (request.AttachPort kind port)) live (attach_port_reply live kind port)
 unfolding attach_port_reply
-fair-attach_port kind live port = fair-attach_line kind (terminal_line live.lines) terminal_place port live
+fair-attach_port live kind port =
+    let row = row_for kind in
+    fair-unless (attach_fault row port live.lines) _ live (fair-listen_with kind row port port (listening_each (rising row.count port) live.ahead) live)
 
 fair-detach_where : (notes : List CommandNote) (live : Live) (unit : Option UnitName) → Fair false (LeavesTraces (request.Detach unit)) live (detach_one_or_all notes live unit)
 fair-detach_where notes live None = fair-detach_all None notes live
 fair-detach_where notes live (Some unit) =
-    fair-if (is_terminal unit) live _ _ (fair-detach_port live) (fair-detach notes live unit)
+    fair-if (is_terminal unit) live _ _ (fair-detach_port live unit.kind) (fair-detach notes live unit)
 
 -- ---- SHOW and EXIT
 
@@ -336,12 +335,16 @@ fair-show live shown.Expect = fair-says _ live live
 fair-show live shown.Send = fair-says _ live live
 fair-show live shown.Version = fair-says _ live live
 fair-show live (shown.Unit unit) =
-    fair-if (is_terminal unit) live _ _ (fair-line (terminal_line live.lines))
+    fair-if (is_terminal unit) live _ _ (fair-ports unit.kind)
     (fair-if (lacks_unit live.machine unit) live _ _ (fair-refused _ live) (fair-says _ live live))
   where
     fair-line : {W : CommandFault → Type 0} (line : Option (LineOf Peer)) → Fair false W live (show_line line live)
     fair-line None = fair-refused _ live
     fair-line (Some line) = fair-says _ live live
+
+    fair-ports : {W : CommandFault → Type 0} (kind : Kind) → Fair false W live (show_ports kind live)
+    fair-ports Qty = fair-if (has_row (row_for Qty) live.lines) live _ _ (fair-says _ live live) (fair-refused _ live)
+    fair-ports kind = fair-line (terminal_line live.lines)
 
 fair-exit : (notes : List CommandNote) (live : Live) (status : Option ℕ) → Fair false (LeavesTraces (request.Exit status)) live (exit_reply notes live status)
 unfolding exit_reply
@@ -611,7 +614,7 @@ fair-effect limit notes live request.NoExpect = fair-no_expect live
 fair-effect limit notes live (request.Send after delay text) = fair-send live after delay text
 fair-effect limit notes live request.NoSend = fair-no_send live
 fair-effect limit notes live (request.Attach option unit name) = fair-attach notes live option unit name
-fair-effect limit notes live (request.AttachPort kind port) = fair-attach_port kind live port
+fair-effect limit notes live (request.AttachPort kind port) = fair-attach_port live kind port
 fair-effect limit notes live (request.Detach unit) = fair-detach_where notes live unit
 fair-effect limit notes live (request.SetSize k) = fair-set_size live k
 fair-effect limit notes live (request.SetAutobit before) = fair-set_autobit live before

@@ -1,6 +1,5 @@
 -- A DEPOSIT without a fault puts its value into the listed places, and changes no other.
-use Rattle.std.proofs.Common.{◌≡◌, ◌⊎◌, inl, inr, ℕ, ◌+◌, ◌-◌, ◌^◌, ◌<◌, ◌≤◌, zero, suc, Bool, true, false, cond, ◌&&◌, nat_le, nat_lt, List, [], ◌∷◌, ◌++◌, length, set, slice_get, Contains, Option, Some, None, is_some, unwrap_or, option_map, option_to_list, refl, sym, ap, subst, ◌∙◌, lt_of_lt_of_le, arith}
-use Rattle.std.proofs.lemmas.List.{get_or-set_other}
+use Rattle.std.proofs.Common.{◌≡◌, ◌⊎◌, inl, inr, ℕ, ◌+◌, ◌-◌, ◌^◌, ◌<◌, ◌≤◌, zero, suc, Bool, true, false, ◌&&◌, nat_le, nat_lt, List, [], ◌∷◌, ◌++◌, length, slice_get, Contains, Option, Some, None, is_some, unwrap_or, option_map, option_to_list, refl, sym, ap, subst, ◌∙◌, lt_of_lt_of_le, arith}
 use Rattle.std.proofs.lemmas.Option.{slice_get_within}
 use Rattle.std.proofs.lemmas.Bool.{cases_eq, and_parts, leb-true, ltb-true}
 use Rattle.nova_memory.specs.Memory.{MemoryState, IsMemory, get, put}

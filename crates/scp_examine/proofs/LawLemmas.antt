@@ -1,7 +1,7 @@
 -- What was put into a place is what it holds.
 use Rattle.std.proofs.Common.{◌≡◌, ℕ, ◌==◌, ◌<◌, ◌≤◌, zero, suc, length, None, refl, arith, nat_le, if◌then◌else◌, ap, unwrap_or}
 use Rattle.std.proofs.lemmas.List.{get_or-set_same}
-use Rattle.std.proofs.lemmas.Bool.{lt-ltb, leb-true}
+use Rattle.std.proofs.lemmas.Bool.{leb-true}
 use Rattle.nova_memory.proofs.Keeps.{get-put}
 use Rattle.unit_trait.specs.declared.processor.CpuReg.TheVariants.{Ac0, Ac1, Ac2, Ac3, C, Pc, Ion, Hold, Mask, Sr, StopDev, Size}
 use Rattle.unit_list.specs.Bus.{kinds_of}

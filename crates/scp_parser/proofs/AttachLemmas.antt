@@ -1,6 +1,5 @@
 -- What ATTACH and DETACH ask for, by the operands behind their names.
 use Rattle.std.proofs.Common.{ℕ, Bool, true, false, cond, Option, List, length, refl}
-use Rattle.unit_trait.specs.declared.kind.Kind.TheVariants.{Tti1}
 use Rattle.unit_trait.specs.declared.kind.UnitName.{UnitName}
 use Rattle.unit_trait.specs.Kinds.{takes_file}
 use Rattle.scp_parser.specs.declared.command.Verb.{Verb}
@@ -38,15 +37,15 @@ module _ (d : Forms_decided) (line : List ℕ) where
 
   -- a port
 
-  port_settles : (option : ℕ) (u : UnitName) (text : List ℕ) → Settles (map_ok see (attach_port text)) (Attaches false option u text) (AttachFaults false text)
+  port_settles : (option : ℕ) (u : UnitName) (text : List ℕ) → Settles (map_ok see (attach_port u.kind text)) (Attaches false option u text) (AttachFaults false text)
   port_settles option u text =
-      then_seen see (Takes IsDecimal text) (WordFaults IsDecimal true text) (λ n. ended (verb.AttachPort Tti1 n.0) n.1) (λ n. Ends (request.AttachPort Tti1 n.0) n.1) (λ n. EndFaults n.1)
-      (needed true decimal text) (needed_settles IsDecimal decimal d.decimal no_decimal true text) (λ n is. ended_seen see (verb.AttachPort Tti1 n.0) n.1)
+      then_seen see (Takes IsDecimal text) (WordFaults IsDecimal true text) (λ n. ended (verb.AttachPort u.kind n.0) n.1) (λ n. Ends (request.AttachPort u.kind n.0) n.1) (λ n. EndFaults n.1)
+      (needed true decimal text) (needed_settles IsDecimal decimal d.decimal no_decimal true text) (λ n is. ended_seen see (verb.AttachPort u.kind n.0) n.1)
 
   -- either of them, behind the unit
 
   either_settles : (takes : Bool) (option : ℕ) (u : UnitName) (text : List ℕ) → IsEnd line text
-      → Settles (map_ok see (cond takes (attach_file bytes option u text) (attach_port text))) (Attaches takes option u text) (AttachFaults takes text)
+      → Settles (map_ok see (cond takes (attach_file bytes option u text) (attach_port u.kind text))) (Attaches takes option u text) (AttachFaults takes text)
   either_settles true option u text end = file_settles option u text end
   either_settles false option u text end = port_settles option u text
 

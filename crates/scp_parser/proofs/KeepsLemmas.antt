@@ -2,9 +2,10 @@
 use Rattle.std.proofs.Common.{◌≡◌, ◌⊎◌, length, take, drop, codes, ◌-◌, ◌<◌, ℕ, Bool, true, false, cond, leb, ltb, ◌&&◌, Option, Some, None, Result, Ok, List, [], ◌∷◌, ◌++◌, refl, ap, sym, ◌∙◌, inl, inr, arith, subst}
 use Rattle.std.specs.Option.{option_map}
 use Rattle.std.proofs.lemmas.Option.{cond_some, same_Some}
+use Rattle.std.proofs.lemmas.Bool.{both_ways}
 use Rattle.std.proofs.lemmas.Bool.Decides.{nat_tests}
 use Rattle.unit_trait.specs.declared.kind.Kind.{Kind}
-use Rattle.unit_trait.specs.declared.kind.Kind.TheVariants.{Mta, Tti1}
+use Rattle.unit_trait.specs.declared.kind.Kind.TheVariants.{Mta}
 use Rattle.unit_trait.specs.declared.kind.UnitName.{UnitName}
 use Rattle.std.proofs.lemmas.List.{append-nil}
 use Rattle.unit_trait.specs.Kinds.{kind_name, takes_file, TakesFile}
@@ -17,7 +18,7 @@ use Rattle.scp_parser.specs.declared.names.AloneName.{AloneName}
 use Rattle.scp_parser.specs.declared.names.AloneName.TheVariants as alone
 use Rattle.scp_parser.specs.declared.names.CommandName.{CommandName}
 use Rattle.scp_parser.specs.declared.names.CommandName.TheVariants as name
-use Rattle.scp_parser.specs.Command.{IsNamedUnit, IsFileUnit, IsAttachOption, ShowsUnit, Keeps}
+use Rattle.scp_parser.specs.Command.{HasPort, IsNamedUnit, IsFileUnit, IsAttachOption, ShowsUnit, Keeps}
 use Rattle.operand_forms.specs.Forms.{IsUnit}
 use Rattle.scp_parser.specs.Forms.{IsOption, existing, new, read_only, IsTarget}
 use Rattle.scp_parser.specs.Grammar.{MayBegin, there, not_there, Takes, option_letter}
@@ -73,10 +74,10 @@ cond_passes false o x h = absurd (cc h)
 
 -- the kinds whose name alone names a unit
 abbrev pub NamesUnit : Kind → Type 0
-NamesUnit kind = TakesFile kind ⊎ (kind ≡ Tti1)
+NamesUnit kind = TakesFile kind ⊎ HasPort kind
 
 unit_kinds_name : Each NamesUnit unit_kinds
-unit_kinds_name = (inl refl, (inl refl, (inl refl, (inl refl, (inl refl, (inr refl, tt))))))
+unit_kinds_name = (inl refl, (inl refl, (inl refl, (inl refl, (inl refl, (inr (inl refl), (inr (inr refl), tt)))))))
 
 below_eight : (b : ℕ) → (leb 48 b && ltb b 56) ≡ true → b - 48 < 8
 below_eight b h = grind (arith, nat_tests)
@@ -178,14 +179,22 @@ target_keeps (Some letter) text u is = unit_keeps text u is.0
 file_keeps : (line text : List ℕ) (option : ℕ) (u : UnitName) (v : Verb) → IsEnd line text → IsAttachOption option → IsFileUnit u → attach_file (length line) option u text ≡ Ok v → Keeps line v
 file_keeps line text option u v end letter unit h = with_name_keeps line (λ name. verb.Attach option u name) text v (λ p is. (letter, unit, is)) end h
 
-port_keeps : (line text : List ℕ) (v : Verb) → attach_port text ≡ Ok v → Keeps line v
-port_keeps line text v h =
-    bind_keeps (Keeps line) (needed true decimal text) (λ n. ended (verb.AttachPort Tti1 n.0) n.1) v h (λ n is last. ended_keeps (Keeps line) (verb.AttachPort Tti1 n.0) n.1 v last refl)
+port_keeps : (line text : List ℕ) (kind : Kind) (v : Verb) → HasPort kind → attach_port kind text ≡ Ok v → Keeps line v
+port_keeps line text kind v has h =
+    bind_keeps (Keeps line) (needed true decimal text) (λ n. ended (verb.AttachPort kind n.0) n.1) v h (λ n is last. ended_keeps (Keeps line) (verb.AttachPort kind n.0) n.1 v last has)
+
+-- a unit that takes no file has ports
+has_port : (u : UnitName) → takes_file u.kind ≡ false → IsNamedUnit u → HasPort u.kind
+has_port u none unit =
+    elim unit.0 [
+      | inl takes ↦ absurd (both_ways (takes_file u.kind) none takes)
+      | inr has ↦ has
+    ]
 
 unit_then_keeps : (line text : List ℕ) (takes : Bool) (option : ℕ) (u : UnitName) (v : Verb) → takes_file u.kind ≡ takes → IsEnd line text → IsAttachOption option → IsNamedUnit u
-    → cond takes (attach_file (length line) option u text) (attach_port text) ≡ Ok v → Keeps line v
+    → cond takes (attach_file (length line) option u text) (attach_port u.kind text) ≡ Ok v → Keeps line v
 unit_then_keeps line text true option u v is end letter unit h = file_keeps line text option u v end letter (is, unit.1) h
-unit_then_keeps line text false option u v is end letter unit h = port_keeps line text v h
+unit_then_keeps line text false option u v is end letter unit h = port_keeps line text u.kind v (has_port u is unit) h
 
 attach_target_keeps : (line text : List ℕ) (option : Option ℕ) (v : Verb) → IsEnd line text → IsAttachOption (option_letter option) → attach_target (length line) (option, text) ≡ Ok v → Keeps line v
 attach_target_keeps line text option v end letter h =

@@ -2,7 +2,7 @@
 use Rattle.std.specs.Prelude.{◌≡◌, ◌⊎◌, ℕ, ◌-◌, ◌<◌, ◌≤◌, Bool, List, [], ◌∷◌, ◌++◌, length, take, drop, Option, Some}
 use Rattle.std.specs.Str.{IsUtf8}
 use Rattle.unit_trait.specs.declared.kind.Kind.{Kind}
-use Rattle.unit_trait.specs.declared.kind.Kind.TheVariants.{Mta, Tti1}
+use Rattle.unit_trait.specs.declared.kind.Kind.TheVariants.{Mta, Tti1, Qty}
 use Rattle.unit_trait.specs.declared.kind.UnitName.{UnitName}
 use Rattle.unit_trait.specs.Kinds.{TakesFile}
 use Rattle.operand_forms.specs.declared.listing.Listing.{Listing}
@@ -107,7 +107,7 @@ IsFileName name = (0 < length name) × (length name ≤ 255) × IsUtf8 name
 abbrev pub IsNamePiece : List ℕ → Piece → Type 0
 IsNamePiece line p = IsPiece line p × IsFileName (piece_of line p)
 
--- a drive of the tape is one of eight, and of every other kind there is one unit
+-- a drive of the tape is one of eight, and every other kind is named as its unit 0
 abbrev pub IsDrive : UnitName → Type 0
 IsDrive u = ((u.kind ≡ Mta) × (u.unit < 8)) ⊎ (u.unit ≡ 0)
 
@@ -115,9 +115,13 @@ IsDrive u = ((u.kind ≡ Mta) × (u.unit < 8)) ⊎ (u.unit ≡ 0)
 abbrev pub IsFileUnit : UnitName → Type 0
 IsFileUnit u = TakesFile u.kind × IsDrive u
 
--- a unit that a command may name: one that takes a file, or the second terminal
+-- the kinds that have ports in place of a file: the second terminal, and the multiplexer
+abbrev pub HasPort : Kind → Type 0
+HasPort kind = (kind ≡ Tti1) ⊎ (kind ≡ Qty)
+
+-- a unit that a command may name: one that takes a file, or one that has ports
 abbrev pub IsNamedUnit : UnitName → Type 0
-IsNamedUnit u = (TakesFile u.kind ⊎ (u.kind ≡ Tti1)) × IsDrive u
+IsNamedUnit u = (TakesFile u.kind ⊎ HasPort u.kind) × IsDrive u
 
 -- the option of ATTACH: none, or the letter E, N or R
 abbrev pub IsAttachOption : ℕ → Type 0
@@ -127,12 +131,13 @@ abbrev pub ShowsUnit : Shown → Type 0
 ShowsUnit (shown.Unit unit) = IsNamedUnit unit
 ShowsUnit subject = Unit {0}
 
--- what holds of each request: a text is quoted, a file can have its name, a unit can be named, an item can be tested
+-- what holds of each request: a text is quoted, a file can have its name, a unit can be named, what is attached to a
+-- port has ports, an item can be tested
 abbrev pub IsKept : Request → Type 0
 IsKept (Expect count text actions) = IsQuoted text
 IsKept (Send after delay text) = IsQuoted text
 IsKept (Attach option unit name) = IsAttachOption option × IsFileUnit unit × IsFileName name
-IsKept (AttachPort kind port) = kind ≡ Tti1
+IsKept (AttachPort kind port) = HasPort kind
 IsKept (Detach (Some unit)) = IsNamedUnit unit
 IsKept (Load name) = IsFileName name
 IsKept (Save name) = IsFileName name
@@ -201,7 +206,7 @@ Keeps line (verb.Break at count actions) = IsPiece line actions
 Keeps line (verb.Expect count text actions) = IsQuotedPiece line text × IsPiece line actions
 Keeps line (verb.Send after delay text) = IsQuotedPiece line text
 Keeps line (verb.Attach option unit name) = IsAttachOption option × IsFileUnit unit × IsNamePiece line name
-Keeps line (verb.AttachPort kind port) = kind ≡ Tti1
+Keeps line (verb.AttachPort kind port) = HasPort kind
 Keeps line (verb.Detach (Some unit)) = IsNamedUnit unit
 Keeps line (verb.Load name) = IsNamePiece line name
 Keeps line (verb.Save name) = IsNamePiece line name

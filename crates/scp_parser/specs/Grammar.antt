@@ -152,10 +152,12 @@ abbrev pub option_letter : Option ℕ → ℕ
 option_letter None = 0
 option_letter (Some letter) = letter
 
--- what follows the unit of ATTACH: the name of a file where the unit takes one, and else the port of the second terminal
+-- what follows the unit of ATTACH: the name of a file where the unit takes one, and else the port of the second
+-- terminal, or the first of those of the multiplexer
 abbrev pub Attaches : Bool → ℕ → UnitName → List ℕ → Request → Type 0
 Attaches true option unit text asked = Then (IsLastName text) (λ name a. a ≡ request.Attach option unit name.0) asked
-Attaches false option unit text asked = Then (Takes IsDecimal text) (λ n. Ends (request.AttachPort Tti1 n.0) n.1) asked
+Attaches false option unit text asked =
+    Then (Takes IsDecimal text) (λ n. Ends (request.AttachPort unit.kind n.0) n.1) asked
 
 -- a unit for ATTACH, and what follows it
 abbrev pub HasTarget : Option ℕ → List ℕ → Request → Type 0

@@ -146,12 +146,13 @@ piece_before bytes word rest = record { from = bytes - length (word ++ rest); to
 abbrev pub attach_file : ℕ → ℕ → UnitName → List ℕ → Result Verb ParseFault
 attach_file bytes option unit text = last_name text >>= (λ name. Ok (verb.Attach option unit (piece_before bytes name.0 name.1)))
 
-abbrev pub attach_port : List ℕ → Result Verb ParseFault
-attach_port text = needed true decimal text >>= (λ n. ended (verb.AttachPort Tti1 n.0) n.1)
+abbrev pub attach_port : Kind → List ℕ → Result Verb ParseFault
+attach_port kind text = needed true decimal text >>= (λ n. ended (verb.AttachPort kind n.0) n.1)
 
 -- what follows the unit of ATTACH
 abbrev pub attach_unit : ℕ → Option ℕ → UnitName × List ℕ → Result Verb ParseFault
-attach_unit bytes option u = if takes_file u.0.kind then attach_file bytes (option_letter option) u.0 u.1 else attach_port u.1
+attach_unit bytes option u =
+    if takes_file u.0.kind then attach_file bytes (option_letter option) u.0 u.1 else attach_port u.0.kind u.1
 
 abbrev pub attach_target : ℕ → Option ℕ × List ℕ → Result Verb ParseFault
 attach_target bytes option = needed false (target_of option.0) option.1 >>= attach_unit bytes option.0

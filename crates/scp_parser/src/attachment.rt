@@ -118,15 +118,11 @@ fn attach_file(bytes: usize, option: u8, unit: UnitName, text: &[u8]) -> Result<
     })
 }
 
-fn attach_port(text: &[u8]) -> Result<Verb, ParseFault>
-    ensures { result ≡ attach_port text.now }
+fn attach_port(kind: Kind, text: &[u8]) -> Result<Verb, ParseFault>
+    ensures { result ≡ attach_port kind text.now }
 {
     let (port, rest) = needed_decimal(text)?;
-    let verb = Verb::AttachPort {
-        kind: Kind::Tti1,
-        port,
-    };
-    ended(verb, rest)
+    ended(Verb::AttachPort { kind, port }, rest)
 }
 
 /// What an ATTACH asks for, by what stands behind its name in a line of so many bytes.
@@ -139,7 +135,7 @@ pub fn attach(bytes: usize, text: &[u8]) -> Result<Verb, ParseFault>
     if takes_file(unit.kind) {
         attach_file(bytes, option_letter(option), unit, rest)
     } else {
-        attach_port(rest)
+        attach_port(unit.kind, rest)
     }
 }
 

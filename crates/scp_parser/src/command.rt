@@ -35,7 +35,7 @@ pub enum Shown {
 /// What a line asks for.
 ///
 /// A number that is too large for its reader is held as 2^64 - 1. An operand that was left out is `None`; in NOBREAK
-/// and DETACH `None` is ALL. A text piece is a quoted text with its quotes.
+/// and DETACH `None` is ALL. A text piece is a quoted text with its quotes. QTY is its unit 0, for all its lines.
 #[derive(Drop)]
 pub enum Verb {
     /// A blank line, a comment or a label.
@@ -71,6 +71,7 @@ pub enum Verb {
         unit: UnitName,
         name: Piece,
     },
+    /// The kind is TTI1, whose line has the port, or QTY, whose lines have the ports from this one on.
     AttachPort {
         kind: Kind,
         port: u64,
@@ -156,8 +157,8 @@ impl Command {
             verb: Verb::Nothing,
         }
     }
-    /// The law of what holds of each command: a text is quoted, a file can have its name, a unit can be named, the
-    /// option of ATTACH is a letter that it has, and an item of ASSERT can be tested.
+    /// The law of what holds of each command: a text is quoted, a file can have its name, a unit can be named, what is
+    /// attached to a port has ports, the option of ATTACH is a letter that it has, and an item of ASSERT can be tested.
     pub fn keeps(&self)
         ensures { IsKept self.now }
     {

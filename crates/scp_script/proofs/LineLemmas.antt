@@ -29,7 +29,7 @@ use Rattle.session_texts.specs.Actions.{Texts, texts_of, texts_behind}
 use Rattle.unit_trait.specs.declared.kind.UnitName.{UnitName}
 use Rattle.scp_script.specs.Session as ends
 use Rattle.scp_script.specs.Session.{emptied_in, input_end, State, Session, Upcoming, SessionEnd, ExitDone, AllDone, InputEnded, BudgetSpent, end_status, state_of, state_at, flushes_in, closed, end_state, rested, going_on, Over, Ends, Comes, prompt_text, asking_input, asking, upcoming, text_reply, following, text_step, step, over_by, course, trace}
-use Rattle.scp_script.specs.Loop.{exit_of, IsAnswer, AreClosings, AreShort, AsksRestore, HasListened, HasListenedAt, IsShort, LetsThrough, status_of, finish_of, Finishes, Progresses}
+use Rattle.scp_script.specs.Loop.{exit_of, IsAnswer, AreClosings, AreShort, AsksPorts, HasListened, HasListenedAt, IsShort, LetsThrough, status_of, finish_of, Finishes, Progresses}
 use Rattle.scp_script.proofs.TextLemmas.{text-reads}
 use Rattle.scp_script.proofs.SessionLemmas.{arrival-paid, trace-is, trace-asks, trace-begins, asking-sent, course-over, step-comes, step-over, upcoming-input, upcoming-done, asking-is, asking-done}
 
@@ -468,7 +468,7 @@ answered old behind new text what used (IsOver OutOfMemory) tells before mid aft
     live_is = elim short.0 [
       | inl left ↦ inl (subst (λ (b : Bool). Remains b old.live new.live) (sym (ap flushes_in e ∙ ap flushes_of c)) left)
       | inr heard ↦ inr (subst (λ (u : Upcoming). HasListenedAt u old.live new.live) (sym e)
-          (subst (λ (a : Asked). AsksRestore a × HasListened old.live new.live) (sym c) heard))
+          (subst (λ (a : Asked). AsksPorts a × HasListened old.live new.live) (sym c) heard))
     ];
     notes = subst (λ (u : Upcoming). AreShort u old.notes) (sym e) (subst (λ (a : Asked). AreClosings (reader_of a) behind.spent old.notes) (sym c) short.1);
     written = inr (ap (λ (o : Output). o.console) short.2 ∙ asks);

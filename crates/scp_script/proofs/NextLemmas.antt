@@ -1,7 +1,9 @@
 -- What a command has next: a script only where it is a DO, and an exit only where it is EXIT.
-use Rattle.std.proofs.Common.{◌≡◌, ℕ, ◌+◌, ◌<◌, ◌==◌, Bool, not, true, false, List, length, refl, sym, subst, Option, Some, None, Result, Ok, Err, if◌then◌else◌, nat_le, nat_lt, ◌&&◌, is_none}
+use Rattle.std.proofs.Common.{◌≡◌, ℕ, ◌+◌, ◌<◌, ◌==◌, Bool, not, is_none, true, false, List, length, refl, sym, subst, Option, Some, None, Result, Ok, Err, if◌then◌else◌, nat_le, nat_lt, ◌&&◌}
 use Rattle.file_commands.specs.declared.note.Subject.TheVariants as subject
 use Rattle.file_commands.specs.Notes.{CommandNote, failure_now}
+use Rattle.unit_trait.specs.declared.kind.Kind.{Kind}
+use Rattle.unit_trait.specs.declared.kind.Kind.TheVariants.{Qty}
 use Rattle.unit_trait.specs.declared.kind.UnitName.{UnitName}
 use Rattle.host_lines.specs.Traffic.{Peer}
 use Rattle.telnet_lines.specs.Line.{LineOf}
@@ -22,14 +24,14 @@ use Rattle.scp_examine.specs.Effect.{examine_fault, fault_of_deposit, tested}
 use Rattle.command_session.specs.declared.do_file.DoFile.{DoFile}
 use Rattle.command_session.specs.declared.next.Next.{Next}
 use Rattle.command_session.specs.declared.next.Next.TheVariants.{Go, Ran, Do, Goto, Exit}
-use Rattle.command_session.specs.declared.fault.CommandFault.TheVariants.{NoSuchName, NoFile}
+use Rattle.command_session.specs.declared.fault.CommandFault.TheVariants.{NoSuchName, NotAttached, NoFile}
 use Rattle.command_session.specs.Live.{Live}
-use Rattle.command_session.specs.Reply.{Answer, Reply, bare_answer}
+use Rattle.command_session.specs.Reply.{Answer, Reply, goes, bare_answer}
 use Rattle.command_session.specs.Nature.{IsUntold}
 use Rattle.command_session.specs.Answers.{CanAnswer, of_unit}
 use Rattle.command_session.specs.RunEffects.{reset_reply}
 use Rattle.plain_commands.specs.ListEffects.{lacks_device, examine_after, examine_reply, handed, deposit_after, deposit_reply}
-use Rattle.command_session.specs.LineEffects.{is_terminal, terminal_line, with_port, detach_port_reply, show_line}
+use Rattle.command_session.specs.LineEffects.{is_terminal, row_for, has_row, row_port, unported, terminal_line, unless_refused, detach_fault, detach_port_reply, show_line, show_ports}
 use Rattle.command_session.specs.FileEffects.{lacks_unit, detach_one_or_all}
 use Rattle.command_session.specs.FileEffects.{detach_answer, detach_reply}
 use Rattle.expect_actions.specs.Expects.{most_expects}
@@ -92,17 +94,23 @@ unfolding detach_reply
 detach-none notes live unit =
     none-if (lacks_unit live.machine unit) _ _ tt (detach_answer-none unit (detach_said (failure_now live.machine.time (subject.Unit unit) notes) unit (attached_in live.machine) live.machine.disk))
 
-with_port-none : (line : Option (LineOf Peer)) (reply : Reply) (live : Live) → IsPlain reply.answer → IsPlain (with_port line reply live).answer
-with_port-none None reply live none = tt
-with_port-none (Some line) reply live none = none-if (is_none line.port) _ _ tt none
-
-detach_port-none : (live : Live) → IsPlain (detach_port_reply live).answer
-unfolding detach_port_reply
-detach_port-none live = with_port-none (terminal_line live.lines) _ live tt
+detach_port-none : (live : Live) (kind : Kind) → IsPlain (detach_port_reply live kind).answer
+unfolding detach_port_reply detach_fault
+detach_port-none live kind = by (not (has_row (row_for kind) live.lines)) (is_none (row_port (row_for kind) live.lines))
+  where
+    by : (lacks free : Bool)
+        → IsPlain (unless_refused (if lacks then Some NoSuchName else if free then Some NotAttached else None) (goes (record live { lines = unported (row_for kind) live.lines })) live).answer
+    by true free = tt
+    by false true = tt
+    by false false = tt
 
 show_line-none : (line : Option (LineOf Peer)) (live : Live) → IsPlain (show_line line live).answer
 show_line-none None live = tt
 show_line-none (Some line) live = tt
+
+show_ports-none : (kind : Kind) (live : Live) → IsPlain (show_ports kind live).answer
+show_ports-none Qty live = none-if (has_row (row_for Qty) live.lines) _ _ tt tt
+show_ports-none kind live = show_line-none (terminal_line live.lines) live
 
 show-none : (live : Live) (subject : Shown) → IsPlain (show_reply live subject).answer
 unfolding show_reply
@@ -110,7 +118,7 @@ show-none live shown.Time = tt
 show-none live shown.Cpu = tt
 show-none live shown.Queue = tt
 show-none live shown.Version = tt
-show-none live (shown.Unit unit) = none-if (is_terminal unit) _ _ (show_line-none (terminal_line live.lines) live) (none-if (lacks_unit live.machine unit) _ _ tt tt)
+show-none live (shown.Unit unit) = none-if (is_terminal unit) _ _ (show_ports-none unit.kind live) (none-if (lacks_unit live.machine unit) _ _ tt tt)
 show-none live shown.Break = tt
 show-none live shown.Expect = tt
 show-none live shown.Send = tt
@@ -165,9 +173,9 @@ assert-none : (live : Live) (test : Test) → IsPlain (assert_reply live test).a
 unfolding assert_reply
 assert-none live test = tested-none (lacks_device live.machine test.device) (tested live.machine test)
 
--- a unit loses its file, or the second teletype its port
+-- a unit loses its file, or its ports
 pub detach-plain : (notes : List CommandNote) (live : Live) (unit : UnitName) → IsPlain (detach_one_or_all notes live (Some unit)).answer
-detach-plain notes live unit = none-if (is_terminal unit) _ _ (detach_port-none live) (detach-none notes live unit)
+detach-plain notes live unit = none-if (is_terminal unit) _ _ (detach_port-none live unit.kind) (detach-none notes live unit)
 
 -- a command that works on no file and no line
 pub untold-plain : (limit : ℕ) (notes : List CommandNote) (live : Live) (r : Request) → IsUntold r → IsPlain (effect limit notes live r).answer

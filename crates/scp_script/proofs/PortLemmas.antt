@@ -1,11 +1,12 @@
 -- What texts leave of the ports and the connections of the outside.
-use Rattle.std.proofs.Common.{◌≡◌, ◌∙◌, inl, inr, ap, sym, subst, ℕ, Bool, false, List, [], ◌∷◌, Option, Ok, Err}
+use Rattle.std.proofs.Common.{◌≡◌, ◌∙◌, inl, inr, ap, sym, subst, ℕ, Bool, false, List, Option, Ok, Err}
 use Rattle.file_traits.specs.Lists.{NamedBytes}
 use Rattle.host_lines.specs.declared.lines.ListenFault.TheVariants as listen
-use Rattle.host_lines.specs.Traffic.{Answer as LineAnswer, Quiet, Ahead, Replied, replied, listening}
+use Rattle.host_lines.specs.Traffic.{Answer as LineAnswer}
 use Rattle.host_lines.specs.Told.{Told, IsFirst, record_in, ahead_of}
 use Rattle.host_lines.specs.State.{LineState, parties}
 use Rattle.telnet_lines.specs.Line.{LineOf}
+use Rattle.unit_trait.specs.declared.kind.Kind.TheVariants.{Qty}
 use Rattle.scp_parser.specs.Command.{Request, AttachPort, Restore}
 use Rattle.command_session.specs.declared.fault.CommandFault.TheVariants.{OutOfMemory}
 use Rattle.command_session.specs.Live.{Live, CommandState, beyond, live_in}
@@ -15,10 +16,10 @@ use Rattle.command_session.specs.Doing.{IsRefused}
 use Rattle.command_session.specs.LinesLeft.{LinesLeft, IsUnlistened, ListenCause}
 use Rattle.command_session.proofs.PortLemmas.{left-same, seen-still}
 use Rattle.command_session.specs.Remains.{Remains}
-use Rattle.terminal_ports.specs.Listening.{TellsEach, OneRefused}
-use Rattle.nova_machine.proofs.LineSteps.{first-same, first-through}
-use Rattle.state_commands.specs.StateEffects.{unless_failed, listening_each}
-use Rattle.scp_script.specs.Loop.{AsksRestore, HasListened, StandsShort}
+use Rattle.terminal_ports.specs.Listening.{rising, TellsEach, OneRefused}
+use Rattle.terminal_ports.proofs.Row.{one-refused}
+use Rattle.terminal_ports.proofs.RowTold.{each-said}
+use Rattle.scp_script.specs.Loop.{AsksPorts, HasListened, StandsShort}
 use Rattle.scp_script.specs.Used.{LinesTold}
 
 -- nothing was asked of the lines
@@ -52,23 +53,6 @@ remains-still flushes before s files old new whole same left = subst (λ (x : Li
 
 -- ---- ports that were listened on
 
-tells-grows : (ports : List ℕ) (old new : Told) → TellsEach ports old new → IsFirst (record_in old) (record_in new)
-tells-grows [] old new same = subst (λ (t : Told). IsFirst (record_in old) (record_in t)) (sym same) (first-same (record_in old))
-tells-grows (port ∷ ports) old new (mid, (gives, later)) = first-through (record_in old) (record_in mid) (record_in new) gives.grows (tells-grows ports mid new later)
-
-unless-said : (said : Replied) (answer : LineAnswer) (ahead : Ahead) (more : Ahead → Replied) → said ≡ replied answer ahead
-    → unless_failed said.answer said.ahead more ≡ unless_failed answer ahead more
-unless-said said answer ahead more is = ap (λ (r : Replied). unless_failed r.answer r.ahead more) is
-
-each-said : (ports : List ℕ) (old new : Told) (whole : List LineAnswer) → TellsEach ports old new → IsFirst (record_in new) whole
-    → listening_each ports (ahead_of old whole) ≡ replied Quiet (ahead_of new whole)
-unfolding listening_each
-each-said [] old new whole same first = ap (λ (t : Told). replied Quiet (ahead_of t whole)) (sym same)
-each-said (port ∷ ports) old new whole (mid, (gives, later)) first =
-    unless-said (listening (ahead_of old whole)) Quiet (ahead_of mid whole) (listening_each ports)
-    (gives.gives whole (first-through (record_in mid) (record_in new) whole (tells-grows ports mid new later) first))
-    ∙ each-said ports mid new whole later first
-
 has-listened : (ports : List ℕ) (s t : CommandState) (files files' : List NamedBytes) (old new : LineState) (whole : List LineAnswer) → parties new ≡ parties old
     → TellsEach ports old.told new.told → IsFirst (record_in new.told) whole → live_in t (beyond files' old whole) ≡ live_in s (beyond files old whole)
     → HasListened (live_in s (beyond files old whole)) (live_in t (beyond files' new whole))
@@ -86,19 +70,28 @@ has-listened ports s t files files' old new whole behind row first same =
 -- nothing was sent
 pub still-sent : (tells : Bool) (request : Request) (old new : LineState) → IsUnasked request (Err OutOfMemory) old new
     → ListenCause tells request (Err OutOfMemory) old new → new.sent ≡ old.sent
-still-sent tells (AttachPort kind port) old new unasked (cause, told) = cause.sent
+still-sent tells (AttachPort kind port) old new unasked each = each.sent
 still-sent tells (Restore force name) old new unasked (inl same) = ap (λ (s : LineState). s.sent) same
 still-sent tells (Restore force name) old new unasked (inr some) = some.listened.sent
 still-sent tells request old new unasked cause = ap (λ (s : LineState). s.sent) (unasked tt (λ none. none))
 
--- what commands work on is as it was, but for a RESTORE that has listened on ports
+-- what commands work on is as it was, but for one that asks for several ports and has listened on some
 pub short-stands : (tells : Bool) (request : Request) (ports : List (Option ℕ)) (s t : CommandState) (files files' : List NamedBytes) (old new : LineState) (whole : List LineAnswer)
     → LinesTold (nature request).telling tells ports → IsUnasked request (Err OutOfMemory) old new → ListenCause tells request (Err OutOfMemory) old new
-    → (AsksRestore (Ok request) → IsFirst (record_in new.told) whole)
+    → (AsksPorts (Ok request) → IsFirst (record_in new.told) whole)
     → Remains (nature request).flushes (live_in s (beyond files old whole)) (live_in t (beyond files' old whole))
     → StandsShort (Ok request) (live_in s (beyond files old whole)) (live_in t (beyond files' new whole))
-short-stands tells (AttachPort kind port) ports s t files files' old new whole telling unasked (cause, told) first left =
-    inl (remains-still false (live_in s (beyond files old whole)) t files' old new whole (record { told = told telling; behind = cause.behind }) left)
+short-stands tells (AttachPort Qty port) ports s t files files' old new whole telling unasked each first left =
+    let cut : OneRefused tells (rising 64 port) listen.OutOfMemory old new = each.row in
+    let told = cut.told telling in
+    inr (
+      tt,
+      has-listened cut.before s t files files' old new whole each.behind (subst (λ (x : Told). TellsEach cut.before old.told x) (sym told.1.1) told.1.0) (first tt)
+          left,
+    )
+short-stands tells (AttachPort kind port) ports s t files files' old new whole telling unasked each first left =
+    let one = one-refused tells port listen.OutOfMemory old new each in
+    inl (remains-still false (live_in s (beyond files old whole)) t files' old new whole (record { told = one.told telling; behind = one.behind }) left)
 short-stands tells (Restore force name) ports s t files files' old new whole telling unasked (inl same) first left =
     inl (remains-still false (live_in s (beyond files old whole)) t files' old new whole (still-same old new same) left)
 short-stands tells (Restore force name) ports s t files files' old new whole telling unasked (inr some) first left =

@@ -1,5 +1,5 @@
 -- What a session uses of files and lines: by its next text, and by a command.
-use Rattle.std.proofs.Common.{◌≡◌, ◌≢◌, inl, inr, ℕ, zero, suc, ◌≤◌, ◌<◌, Bool, true, false, IsTrue, List, [], ◌∷◌, ◌++◌, length, map, slice_get, Option, Some, None, refl, ap, sym, ◌∙◌, subst, Ok, Err, if◌then◌else◌}
+use Rattle.std.proofs.Common.{◌≡◌, ◌≢◌, inl, inr, ℕ, zero, suc, ◌≤◌, ◌<◌, Bool, true, false, IsTrue, List, [], ◌∷◌, ◌++◌, length, map, slice_get, slice_set, Option, Some, None, refl, ap, sym, ◌∙◌, subst, Ok, Err, if◌then◌else◌}
 use Rattle.std.specs.List.{AllByRecursion}
 use Rattle.std.proofs.lemmas.Option.{same_Some}
 use Rattle.host_lines.specs.Traffic.{Peer, Answer as LineAnswer}
@@ -10,6 +10,7 @@ use Rattle.telnet_lines.specs.Joined.{seen_line}
 use Rattle.telnet_lines.specs.Many.{AreApart}
 use Rattle.unit_files.specs.Attachments.{Held}
 use Rattle.file_commands.specs.Notes.{Note}
+use Rattle.unit_trait.specs.declared.kind.Kind.{Kind}
 use Rattle.unit_trait.specs.declared.kind.UnitName.{UnitName}
 use Rattle.scp_parser.specs.Command.{Request, Run, Go, Cont, Step, AttachPort, Detach, Disconnect, Exit, Restore}
 use Rattle.nova_machine.specs.Machine.{MachineState}
@@ -17,15 +18,18 @@ use Rattle.nova_machine.specs.Seen.{unnumbered}
 use Rattle.nova_machine.specs.Comes.{Output, AreFree}
 use Rattle.nova_machine.specs.LineChanges.{ports_of, HaveNoPort, AreLinesTold}
 use Rattle.nova_machine.proofs.LineSteps.{first-same}
+use Rattle.terminal_ports.proofs.PortsApart.{set-same}
+use Rattle.command_session.proofs.PortLemmas.{closed-none}
+use Rattle.command_session.specs.declared.fault.CommandFault.{CommandFault}
 use Rattle.command_session.specs.declared.fault.CommandFault.TheVariants.{Console, OutOfMemory}
 use Rattle.command_session.specs.Live.{Live, CommandState, Beyond, live_in}
 use Rattle.command_session.specs.Reply.{Answer}
-use Rattle.command_session.specs.LineEffects.{is_terminal, terminal_place}
+use Rattle.command_session.specs.LineEffects.{is_terminal, row_for, every_row, first_place, terminal_place, detach_fault}
 use Rattle.command_session.specs.Nature.{Telling, nature}
 use Rattle.command_session.specs.Nature.Telling.{Nothing, Ported, Listening, Attached, Named, Whole}
 use Rattle.command_session.specs.Doing.{IsRefused, told_by, IsTold}
 use Rattle.command_session.specs.LinesLeft.{IsUnlistened}
-use Rattle.command_session.specs.PortAnswers.{LinesStay, detaches_at, disconnects_at, closes_at, DetachesPort, Disconnects, ClosesPort, ClosesAll, detaches_by}
+use Rattle.command_session.specs.PortAnswers.{LinesStay, closes_at, ClosesEach, detaches_row, DetachesPort, disconnects_at, Disconnects, ClosesPorts, ClosesAll, detaches_by}
 use Rattle.command_session.specs.Asked.{Asked, asked}
 use Rattle.scp_commands.specs.LineAnswers.{RunLines, LinesAnswer}
 use Rattle.session_texts.specs.Lines.{InputEnds, LineComes, arrival}
@@ -130,23 +134,37 @@ free-at [] place line at none = absurd (cc)
 free-at (l ∷ lines) zero line at none = ap (λ (x : LineOf ℕ). x.port) (sym (same_Some l line at)) ∙ none.0
 free-at (l ∷ lines) (suc place) line at none = free-at lines place line at none.1
 
-closes-none : (old : LineState) (before : List (LineOf ℕ)) (new : LineState) (after : List (LineOf ℕ)) → HaveNoPort before → ClosesPort old before new after → new ≡ old
-closes-none old before new after none closes = by (slice_get before terminal_place) refl closes
+one-none : (place : ℕ) (old : LineState) (before : List (LineOf ℕ)) (new : LineState) (after : List (LineOf ℕ)) → HaveNoPort before → closes_at place (slice_get before place) old before new after
+    → (new ≡ old) × (after ≡ before)
+one-none place old before new after none closes = by (slice_get before place) refl closes
   where
-    by : (o : Option (LineOf ℕ)) → slice_get before terminal_place ≡ o → closes_at terminal_place o old before new after → new ≡ old
-    by None at stay = stay.outside
-    by (Some line) at drops = drops.none (free-at before terminal_place line at none)
+    by : (o : Option (LineOf ℕ)) → slice_get before place ≡ o → closes_at place o old before new after → (new ≡ old) × (after ≡ before)
+    by None at stay = (stay.outside, stay.lines)
+    by (Some line) at drops =
+        let free = free-at before place line at none in
+        (drops.none free, drops.lines ∙ ap (slice_set before place) (closed-none line free) ∙ set-same place before line at)
+
+each-none : (count place : ℕ) (old : LineState) (before : List (LineOf ℕ)) (new : LineState) (after : List (LineOf ℕ)) → HaveNoPort before → ClosesEach count place old before new after → new ≡ old
+unfolding ClosesEach
+each-none zero place old before new after none stay = stay.outside
+each-none (suc count) place old before new after none (mid, between, one, more) =
+    let same = one-none place old before mid between none one in
+    each-none count (suc place) mid between new after (subst HaveNoPort (sym same.1) none) more ∙ same.0
+
+closes-none : (old : LineState) (before : List (LineOf ℕ)) (new : LineState) (after : List (LineOf ℕ)) → HaveNoPort before → ClosesPorts old before new after → new ≡ old
+closes-none old before new after none closes = each-none every_row.count (first_place every_row) old before new after none closes
 
 closes-all-none : (answer : Answer) (old : LineState) (before : List (LineOf ℕ)) (new : LineState) (after : List (LineOf ℕ)) → HaveNoPort before → ClosesAll answer old before new after → new ≡ old
 closes-all-none (Ok next) old before new after none closes = closes-none old before new after none closes
 closes-all-none (Err fault) old before new after none stay = stay.outside
 
-detaches-none : (answer : Answer) (old : LineState) (before : List (LineOf ℕ)) (new : LineState) (after : List (LineOf ℕ)) → HaveNoPort before → DetachesPort answer old before new after → new ≡ old
-detaches-none answer old before new after none detaches = by (slice_get before terminal_place) refl detaches
+detaches-none : (kind : Kind) (answer : Answer) (old : LineState) (before : List (LineOf ℕ)) (new : LineState) (after : List (LineOf ℕ)) → HaveNoPort before → DetachesPort kind answer old before new after
+    → new ≡ old
+detaches-none kind answer old before new after none detaches = by (detach_fault (row_for kind) before) detaches
   where
-    by : (o : Option (LineOf ℕ)) → slice_get before terminal_place ≡ o → detaches_at terminal_place o answer old before new after → new ≡ old
-    by None at is = is.stay.outside
-    by (Some line) at is = is.1.none (free-at before terminal_place line at none)
+    by : (fault : Option CommandFault) → detaches_row fault (row_for kind) answer old before new after → new ≡ old
+    by (Some fault) is = is.stay.outside
+    by None is = each-none (row_for kind).count (first_place (row_for kind)) old before new after none is.closes
 
 disconnects-none : (answer : Answer) (old : LineState) (before : List (LineOf ℕ)) (new : LineState) (after : List (LineOf ℕ)) → HaveNoPort before → Disconnects answer old before new after → new ≡ old
 disconnects-none answer old before new after none disconnects = by (slice_get before terminal_place) refl disconnects
@@ -155,10 +173,10 @@ disconnects-none answer old before new after none disconnects = by (slice_get be
     by None at is = is.stay.outside
     by (Some line) at is = is.1.none (free-at before terminal_place line at none)
 
-detached-none : (b tells : Bool) (answer : Answer) (old : LineState) (before : List (LineOf ℕ)) (new : LineState) (after : List (LineOf ℕ)) → (IsTrue tells → ⊥)
-    → LinesTold (if b then Ported else Nothing) tells (ports_of before) → detaches_by b answer old before new after → new ≡ old
-detached-none true tells answer old before new after untold told is = never-told tells before untold told (λ none. detaches-none answer old before new after none is)
-detached-none false tells answer old before new after untold told stay = stay.outside
+detached-none : (b tells : Bool) (kind : Kind) (answer : Answer) (old : LineState) (before : List (LineOf ℕ)) (new : LineState) (after : List (LineOf ℕ)) → (IsTrue tells → ⊥)
+    → LinesTold (if b then Ported else Nothing) tells (ports_of before) → detaches_by b kind answer old before new after → new ≡ old
+detached-none true tells kind answer old before new after untold told is = never-told tells before untold told (λ none. detaches-none kind answer old before new after none is)
+detached-none false tells kind answer old before new after untold told stay = stay.outside
 
 module _ (tells : Bool) (answer : Answer) (old new : LineState) (before after : List (LineOf ℕ)) (untold : IsTrue tells → ⊥) where
   pub still-lines : (r : Request) → LinesTold (nature r).telling tells (ports_of before) → (IsRefused answer → (IsUnlistened r answer → ⊥) → new ≡ old)
@@ -176,16 +194,16 @@ module _ (tells : Bool) (answer : Answer) (old new : LineState) (before after : 
   still-lines (Detach None) told unasked line =
       never-told tells before untold told (λ none. by-answer (Detach None) answer old new (λ a. ClosesAll a old before new after) (λ n. n) unasked line (closes-all-none answer old before new after none))
   still-lines (Detach (Some unit)) told unasked line =
-      by-answer (Detach (Some unit)) answer old new (λ a. detaches_by (is_terminal unit) a old before new after) (λ n. n) unasked line
-      (detached-none (is_terminal unit) tells answer old before new after untold told)
+      by-answer (Detach (Some unit)) answer old new (λ a. detaches_by (is_terminal unit) unit.kind a old before new after) (λ n. n) unasked line
+      (detached-none (is_terminal unit) tells unit.kind answer old before new after untold told)
   still-lines (Disconnect kind) told unasked line =
       never-told tells before untold told (λ none. by-answer (Disconnect kind) answer old new (λ a. Disconnects a old before new after) (λ n. n) unasked line (disconnects-none answer old before new after none))
   still-lines (Exit status) told unasked line =
       never-told tells before untold told (λ none. by-answer (Exit status) answer old new (λ a. ClosesAll a old before new after) (λ n. n) unasked line (closes-all-none answer old before new after none))
   still-lines r told unasked line = by-answer r answer old new (λ _. LinesStay old before new after) (λ n. n) unasked line (λ stay. stay.outside)
 
-  -- the end of the input, where the port is given up, and where a unit keeps its file
-  pub still-ended : PortsTold tells (ports_of before) → ClosesPort old before new after → new ≡ old
+  -- the end of the input, where the ports are given up, and where a unit keeps its file
+  pub still-ended : PortsTold tells (ports_of before) → ClosesPorts old before new after → new ≡ old
   still-ended told closes = never-told tells before untold told (λ none. closes-none old before new after none closes)
 
 -- ---- the next text of a session

@@ -11,8 +11,10 @@ use Rattle.observations.specs.Status.{number_of}
 use Rattle.observations.specs.Observations.{Trace, text_of, reads_of, sent_of}
 use Rattle.observations.specs.Cut.{ends, cut_trace, sent_until}
 use Rattle.host_lines.specs.Traffic.{Quiet, replied}
+use Rattle.unit_trait.specs.declared.kind.Kind.TheVariants.{Qty}
+use Rattle.terminal_ports.specs.Listening.{listening_each}
 use Rattle.file_commands.specs.AllUnits.{IsUnwritten}
-use Rattle.scp_parser.specs.Command.{Request, Do, Restore}
+use Rattle.scp_parser.specs.Command.{Request, AttachPort, Do, Restore}
 use Rattle.command_session.specs.declared.next.Next.{Next}
 use Rattle.command_session.specs.declared.next.Next.TheVariants.{Exit as ExitNext}
 use Rattle.command_session.specs.declared.next.Next.TheVariants as next
@@ -32,7 +34,6 @@ use Rattle.command_session.specs.Reply.{Answer, Reply}
 use Rattle.command_session.specs.FaultText.{fault_text}
 use Rattle.command_session.specs.Asked.{Asked, asked}
 use Rattle.command_session.specs.Remains.{Remains, flushes_of, reader_of}
-use Rattle.state_commands.specs.StateEffects.{listening_each}
 use Rattle.command_session.specs.DiskFile.{disk_alone}
 use Rattle.command_session.specs.Doing.{IsSaid, IsBrokenOff, Does, ComeBehind, CommandOpens, OpensNone, opens_of, most_unnoted, most_opened}
 use Rattle.scp_script.specs.declared.progress.CommandLoop.{CommandLoop}
@@ -165,10 +166,11 @@ AreClosings None number notes = notes ≡ []
 AreClosings (Some who) number notes =
     AllByRecursion (λ (n : Note). (n.command ≡ number) × (n.note.subject ≡ who) × (n.note.failure.call ≡ Closing)) notes
 
--- that is a RESTORE
-abbrev pub AsksRestore : Asked → Type 0
-AsksRestore (Ok (Restore force name)) = Unit {0}
-AsksRestore what = ⊥
+-- that is a RESTORE, or an ATTACH of the multiplexer: it may listen on several ports
+abbrev pub AsksPorts : Asked → Type 0
+AsksPorts (Ok (Restore force name)) = Unit {0}
+AsksPorts (Ok (AttachPort Qty port)) = Unit {0}
+AsksPorts what = ⊥
 
 -- Ports were listened on, one behind another, and none was refused. All is as it was, but for what is still to come on lines,
 -- which has moved on by these listenings.
@@ -177,12 +179,13 @@ pub record HasListened (old new : Live) : Type 0 where
   pub listened : listening_each ports old.ahead ≡ replied Quiet new.ahead
   pub all : new ≡ record old { ahead = new.ahead }
 
--- what stands where memory ran out at a text: what `Remains` says, or a RESTORE had listened on the first of its ports
+-- what stands where memory ran out at a text: what `Remains` says, or one that asks for several ports had listened on the first of
+-- them
 abbrev pub StandsShort : Asked → Live → Live → Type 0
-StandsShort what old new = Remains (flushes_of what) old new ⊎ (AsksRestore what × HasListened old new)
+StandsShort what old new = Remains (flushes_of what) old new ⊎ (AsksPorts what × HasListened old new)
 
--- Where memory ran out at a text, nothing was done, but that one that flushes the disk may have done so, that a RESTORE may
--- have listened on ports, which are given up again, and one that was reading a file has closed it, with these notes.
+-- Where memory ran out at a text, nothing was done, but that one that flushes the disk may have done so, that one that
+-- asks for several ports may have listened on some, which are given up again, and one that was reading a file has closed it, with these notes.
 abbrev pub IsShort : Asked → ℕ → Progress → Live → Live → List Note → Output → Output → Type 0
 IsShort what number (IsOver OutOfMemory) old new own before after =
     StandsShort what old new × AreClosings (reader_of what) number own × (after ≡ before)
@@ -227,14 +230,14 @@ abbrev pub AreShort : Upcoming → List Note → Type 0
 AreShort (Ends end) notes = notes ≡ []
 AreShort (Comes text behind) notes = AreClosings (reader_of (asked text)) behind.spent notes
 
--- the next text is a RESTORE that has listened on ports
+-- the next text is one that asks for several ports, and has listened on some
 abbrev pub HasListenedAt : Upcoming → Live → Live → Type 0
 HasListenedAt (Ends end) old new = ⊥
-HasListenedAt (Comes text behind) old new = AsksRestore (asked text) × HasListened old new
+HasListenedAt (Comes text behind) old new = AsksPorts (asked text) × HasListened old new
 
 -- A session for which memory ran out before its next text, or at it: nothing of the text was done, but that one that
--- flushes the disk may have done so, that a RESTORE may have listened on ports, and one that was reading a file has closed it;
--- the notes that are left are of that closing. Of what is printed before the text is done comes all or nothing, and nothing was sent.
+-- flushes the disk may have done so, that one that asks for several ports may have listened on some, and one that was reading a
+-- file has closed it; the notes that are left are of that closing. Of what is printed before the text is done comes all or nothing, and nothing was sent.
 pub record StopsShort (old : Session) (live : Live) (before after : Output) : Type 0 where
   pub live_is : Remains (flushes_next old) old.live live ⊎ HasListenedAt (upcoming old) old.live live
   pub notes : AreShort (upcoming old) old.notes

@@ -24,7 +24,7 @@ ghost use Rattle.session_texts.specs.Scripts.{checked, arguments_of, label_of, b
 ghost use Rattle.session_texts.specs.Actions.{texts_of, coming, texts_behind, behind_refusal};
 ghost use Rattle.session_texts.specs.Actions.{text_of_stop, put_first, overflow_text};
 ghost use Rattle.scp_script.specs.Session.{text_reply};
-ghost use Rattle.scp_script.specs.Loop.{IsAnswer, Answers, AnswerCounts, HasExitStatus, AreKeptBy, AsksRestore, IsShort};
+ghost use Rattle.scp_script.specs.Loop.{IsAnswer, Answers, AnswerCounts, HasExitStatus, AreKeptBy, AsksPorts, IsShort};
 ghost use Rattle.scp_script.specs.Loop.{Complains, Denies, Follows, FitsIn};
 ghost use Rattle.scp_script.specs.Used.{TextTold};
 ghost use Rattle.scp_script.specs.Spending.{EndOf, IsNoExit, NextOf, OpensOne};
@@ -70,7 +70,7 @@ pub fn answer<U: Unit, F: Files, L: Lines, S: Sink>(
     ensures grows { Grows S.tells (S.written out.old) (S.written out.new) }
     ensures short { TextTold F.tells L.tells session.old.machine texts.old.scripts (asked line.now)
         → InStep (attached_files session.old.machine) (F.state files.old).files → (whole : List LineAnswer)
-        → (AsksRestore (asked line.now) → IsFirst (record_in (L.state lines.new).told) whole) → (own : List Note)
+        → (AsksPorts (asked line.now) → IsFirst (record_in (L.state lines.new).told) whole) → (own : List Note)
         → notes_said session.new.notes ≡ notes_said session.old.notes ++ own
         → IsShort (asked line.now) session.old.command result
         (live_in session.old (beyond (F.state files.old).files (L.state lines.old) whole))
@@ -132,7 +132,7 @@ fn obey<U: Unit, F: Files, L: Lines, S: Sink>(
     ensures grows { Grows S.tells (S.written out.old) (S.written out.new) }
     ensures short { TextTold F.tells L.tells session.old.machine texts.old.scripts (Ok command.now)
         → InStep (attached_files session.old.machine) (F.state files.old).files → (whole : List LineAnswer)
-        → (AsksRestore (Ok command.now) → IsFirst (record_in (L.state lines.new).told) whole) → (own : List Note)
+        → (AsksPorts (Ok command.now) → IsFirst (record_in (L.state lines.new).told) whole) → (own : List Note)
         → notes_said session.new.notes ≡ notes_said session.old.notes ++ own
         → IsShort (Ok command.now) session.old.command result
         (live_in session.old (beyond (F.state files.old).files (L.state lines.old) whole))

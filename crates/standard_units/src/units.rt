@@ -3,19 +3,21 @@ ghost use Rattle.unit_trait.specs.declared.kind.Kind.TheVariants.{Dsk as disks, 
 ghost use Rattle.unit_trait.specs.declared.kind.Kind.TheVariants.{Ptp as punches, Clk as clocks, Tti as keyboards};
 ghost use Rattle.unit_trait.specs.declared.kind.Kind.TheVariants.{Tto as teleprinters};
 ghost use Rattle.unit_trait.specs.declared.kind.Kind.TheVariants.{Tti1 as second_keyboards, Tto1 as second_printers};
+ghost use Rattle.unit_trait.specs.declared.kind.Kind.TheVariants.{Qty as multiplexers};
 ghost use Rattle.unit_trait.specs.Row.{initial_unit};
-ghost use Rattle.command_words.specs.Standard.{IsStandard};
+ghost use Rattle.command_words.specs.Standard.{standard_units as ten_units, all_units as eleven_units};
 
 use crate::boxes::{four, push_four, push_two, two};
 use clock_unit::Clk;
 use disk_unit::Dsk;
 use paper_tape::{Lpt, Ptp, Ptr};
+use qty_mux::Qty;
 use std::alloc::{AllocError as OutOfMemory, Global};
 use tape_unit::Mta;
 use tty_units::{Tti, Tti1, Tto, Tto1};
 use unit_trait::Unit;
 
-/// A box of each kind of unit that is built, in bus order.
+/// A box of each kind of unit but the multiplexer, in bus order.
 pub type Boxes = (
     Box<Dsk>,
     Box<Mta>,
@@ -29,7 +31,7 @@ pub type Boxes = (
     Box<Tto1>,
 );
 
-/// A new unit of each kind that is built, each in a box.
+/// A new unit of each kind but the multiplexer, each in a box.
 pub fn boxed_units(alloc: Global) -> Result<Boxes, OutOfMemory>
     ensures disk { IfOk result (λ b. ⟦<Dsk as Unit>⟧.unit_state b.0.value ≡ initial_unit disks) }
     ensures tape { IfOk result (λ b. ⟦<Mta as Unit>⟧.unit_state b.1.value ≡ initial_unit tapes) }
@@ -71,7 +73,7 @@ pub fn boxed_units(alloc: Global) -> Result<Boxes, OutOfMemory>
     ))
 }
 
-/// A list of these units, which are the standard ones, in bus order.
+/// A list of these units, which are the standard ones without the multiplexer, in bus order.
 pub fn in_bus_order<U: Unit>(
     alloc: Global,
     disk: U,
@@ -95,11 +97,29 @@ pub fn in_bus_order<U: Unit>(
     requires teleprinter { U.unit_state teleprinter ≡ initial_unit teleprinters }
     requires keyboard_1 { U.unit_state keyboard_1 ≡ initial_unit second_keyboards }
     requires teleprinter_1 { U.unit_state teleprinter_1 ≡ initial_unit second_printers }
-    ensures { IfOk result (λ units. IsStandard (map U.unit_state units.items)) }
+    ensures { IfOk result (λ units. map U.unit_state units.items ≡ ten_units) }
 {
     let mut units = Vec::new(alloc);
     push_four(&mut units, disk, tape, printer, reader)?;
     push_four(&mut units, punch, clock, keyboard, teleprinter)?;
     push_two(&mut units, keyboard_1, teleprinter_1)?;
+    Ok(units)
+}
+
+/// A new multiplexer, in a box.
+pub fn boxed_multiplexer(alloc: Global) -> Result<Box<Qty>, OutOfMemory>
+    ensures { IfOk result (λ b. ⟦<Qty as Unit>⟧.unit_state b.value ≡ initial_unit multiplexers) }
+{
+    Ok(Box::new(alloc, Qty::new())?)
+}
+
+/// These units, which are the standard ones without the multiplexer, and a multiplexer behind them.
+pub fn with_multiplexer<U: Unit>(units: Vec<U>, multiplexer: U) -> Result<Vec<U>, OutOfMemory>
+    requires units { map U.unit_state units.items ≡ ten_units }
+    requires multiplexer { U.unit_state multiplexer ≡ initial_unit multiplexers }
+    ensures { IfOk result (λ units. map U.unit_state units.items ≡ eleven_units) }
+{
+    let mut units = units;
+    units.push(multiplexer)?;
     Ok(units)
 }

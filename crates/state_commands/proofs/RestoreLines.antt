@@ -1,25 +1,28 @@
 -- What RESTORE leaves of the lines.
-use Rattle.std.proofs.Common.{◌≡◌, ◌≢◌, inl, inr, ℕ, zero, suc, ◌+◌, ◌<◌, ◌≤◌, ◌++◌, append-nil, Bool, true, false, true≢false, List, [], ◌∷◌, length, map, slice_get, Option, Some, None, IfSome, IsTrue, is_some, Ok, Err, refl, ap, sym, ◌∙◌, subst, arith}
+use Rattle.std.proofs.Common.{◌≡◌, inl, inr, ℕ, zero, suc, ◌+◌, ◌<◌, ◌≤◌, ◌++◌, append-nil, Bool, true, false, true≢false, List, [], ◌∷◌, length, map, slice_get, Option, Some, None, IfSome, IsTrue, is_some, Ok, Err, refl, ap, sym, ◌∙◌, subst, arith}
 use Rattle.std.specs.List.{AllByRecursion}
 use Rattle.std.proofs.lemmas.Option.{same_Some}
 use Rattle.host_lines.specs.declared.lines.ListenFault.{ListenFault}
 use Rattle.host_lines.specs.declared.lines.ListenFault.TheVariants as listen
-use Rattle.host_lines.specs.Traffic.{Answer as LineAnswer, Quiet, Failed, Ahead, Replied, replied, listening}
-use Rattle.host_lines.specs.LineCalls.{Listens, listen_faults}
-use Rattle.host_lines.specs.Told.{Told, Gives, IsFirst, record_in, ahead_of}
+use Rattle.host_lines.specs.Traffic.{Answer as LineAnswer, Quiet, Failed, Replied, replied}
+use Rattle.host_lines.specs.LineCalls.{listen_faults}
+use Rattle.host_lines.specs.Told.{IsFirst, record_in, ahead_of}
 use Rattle.host_lines.specs.State.{LineState, IsListened}
 use Rattle.telnet_lines.specs.Line.{LineOf, unconnected}
 use Rattle.telnet_lines.specs.Many.{AreApart}
 use Rattle.telnet_lines.specs.Joined.{seen_line}
-use Rattle.terminal_ports.specs.Listening.{TellsEach, ListensEach}
+use Rattle.terminal_ports.specs.Listening.{ListensEach, listening_each}
+use Rattle.terminal_ports.specs.Rows.{with_ports}
+use Rattle.terminal_ports.proofs.RowPorts.{AreGiven, HasAt, NoneHas, given-length, every-given, given-there, apart-given, given-listened, listened-before, given-up-before}
+use Rattle.terminal_ports.proofs.RowTold.{tells-grows, listens-grows, each-said, failed-said}
 use Rattle.nova_machine.specs.LineChanges.{HasConnection}
-use Rattle.nova_machine.proofs.LineSteps.{first-same, first-through, hears-equal}
+use Rattle.nova_machine.proofs.LineSteps.{first-through, hears-equal}
 use Rattle.unit_trait.specs.declared.kind.UnitName.{UnitName}
 use Rattle.saved_files.specs.declared.file_faults.RestoreFault.{RestoreFault}
 use Rattle.saved_files.specs.declared.file_faults.RestoreFault.TheVariants as restore
 use Rattle.saved_session.specs.declared.saved.SavedPorts.{SavedPorts}
 use Rattle.saved_session.specs.Valid.{ArePorts}
-use Rattle.state_transfer.specs.Ports.{assigned, ports_wanted, with_ports}
+use Rattle.state_transfer.specs.Ports.{assigned, ports_wanted}
 use Rattle.state_transfer.specs.Putting.{SaysMissing}
 use Rattle.state_transfer.specs.Listening.{LeavesLines, AreClosed}
 use Rattle.saved_session.specs.Parts.{State}
@@ -30,11 +33,11 @@ use Rattle.command_session.specs.declared.fault.CommandFault.TheVariants.{PortFa
 use Rattle.state_commands.specs.StateFaults.{restore_fault}
 use Rattle.command_session.specs.LinesLeft.{HasPort, AreListened, LinesLeft, Unlistened}
 use Rattle.command_session.specs.Live.{Live}
-use Rattle.state_commands.specs.StateEffects.{refusal_fault, refusal_used, unless_failed, listening_each, restored_by, listened_back}
+use Rattle.state_commands.specs.StateEffects.{refusal_fault, refusal_used, restored_by, listened_back}
 use Rattle.command_session.proofs.KeptLemmas.{lines-kept}
 use Rattle.fault_counts.specs.Faults.{raised}
 use Rattle.command_session.proofs.PortLemmas.{seen-still}
-use Rattle.state_commands.proofs.PortRows.{AreGiven, HasAt, NoneHas, all-given, given-length, every-given, given-there, apart-given, closed-none, given-listened, listened-before, given-up-before, ports-seen}
+use Rattle.state_commands.proofs.PortRows.{all-given, closed-none, ports-seen}
 use Rattle.state_commands.proofs.RestoreLemmas.{ends, missing-did, back-did, failed-did, unread-want}
 use Rattle.command_session.proofs.WholeLemmas.{own_both}
 use Rattle.file_commands.specs.declared.note.Subject.TheVariants as subject
@@ -99,41 +102,6 @@ closed-listened : (s : LineState) (lines : List (LineOf ℕ)) → AreClosed line
 closed-listened s [] closed = tt
 closed-listened s (line ∷ lines) closed =
     (subst (λ (o : Option ℕ). IfSome o (IsListened s)) (sym (ap (λ (l : LineOf ℕ). l.port) closed.0)) tt, closed-listened s lines closed.1)
-
--- ---- what is told of a row of listenings
-
-tells-grows : (ports : List ℕ) (old new : Told) → TellsEach ports old new → IsFirst (record_in old) (record_in new)
-tells-grows [] old new same = subst (λ (t : Told). IsFirst (record_in old) (record_in t)) (sym same) (first-same (record_in old))
-tells-grows (port ∷ ports) old new (mid, (gives, later)) = first-through (record_in old) (record_in mid) (record_in new) gives.grows (tells-grows ports mid new later)
-
-listens-grows : (fault : ListenFault) (old new : Told) → Listens old new (Err fault) → IsFirst (record_in old) (record_in new)
-listens-grows listen.Failed old new gives = gives.grows
-listens-grows listen.OutOfMemory old new same = subst (λ (t : Told). IsFirst (record_in old) (record_in t)) (sym same) (first-same (record_in old))
-
-unless-said : (said : Replied) (answer : LineAnswer) (ahead : Ahead) (more : Ahead → Replied) → said ≡ replied answer ahead
-    → unless_failed said.answer said.ahead more ≡ unless_failed answer ahead more
-unless-said said answer ahead more is = ap (λ (r : Replied). unless_failed r.answer r.ahead more) is
-
-each-said : (ports : List ℕ) (old new : Told) (whole : List LineAnswer) → TellsEach ports old new → IsFirst (record_in new) whole
-    → listening_each ports (ahead_of old whole) ≡ replied Quiet (ahead_of new whole)
-unfolding listening_each
-each-said [] old new whole same first = ap (λ (t : Told). replied Quiet (ahead_of t whole)) (sym same)
-each-said (port ∷ ports) old new whole (mid, (gives, later)) first =
-    unless-said (listening (ahead_of old whole)) Quiet (ahead_of mid whole) (listening_each ports)
-    (gives.gives whole (first-through (record_in mid) (record_in new) whole (tells-grows ports mid new later) first))
-    ∙ each-said ports mid new whole later first
-
-failed-said : (before behind : List ℕ) (refused : ℕ) (old mid new : Told) (whole : List LineAnswer) → TellsEach before old mid → Gives mid new listening Failed → IsFirst (record_in new) whole
-    → listening_each (before ++ (refused ∷ behind)) (ahead_of old whole) ≡ replied Failed (ahead_of new whole)
-unfolding listening_each
-failed-said [] behind refused old mid new whole same gives first =
-    ap (λ (t : Told). listening_each (refused ∷ behind) (ahead_of t whole)) (sym same)
-    ∙ unless-said (listening (ahead_of mid whole)) Failed (ahead_of new whole) (listening_each behind) (gives.gives whole first)
-failed-said (port ∷ before) behind refused old mid new whole (next, (one, later)) gives first =
-    unless-said (listening (ahead_of old whole)) Quiet (ahead_of next whole) (listening_each (before ++ (refused ∷ behind)))
-    (one.gives whole (first-through (record_in next) (record_in new) whole
-    (first-through (record_in next) (record_in mid) (record_in new) (tells-grows before next mid later) gives.grows) first))
-    ∙ failed-said before behind refused next mid new whole later gives first
 
 -- ---- what is left of the lines
 

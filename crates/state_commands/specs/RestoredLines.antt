@@ -4,10 +4,11 @@ use Rattle.host_lines.specs.declared.lines.ListenFault.TheVariants as listen
 use Rattle.host_lines.specs.State.{LineState}
 use Rattle.telnet_lines.specs.Line.{LineOf}
 use Rattle.terminal_ports.specs.Listening.{ListensEach}
+use Rattle.terminal_ports.specs.Rows.{with_ports}
 use Rattle.saved_session.specs.declared.saved.SavedPorts.{SavedPorts}
 use Rattle.saved_session.specs.Valid.{ArePorts}
 use Rattle.state_transfer.specs.Listening.{AreClosed}
-use Rattle.state_transfer.specs.Ports.{assigned, ports_wanted, with_ports}
+use Rattle.state_transfer.specs.Ports.{assigned, ports_wanted}
 use Rattle.command_session.specs.declared.fault.CommandFault.TheVariants.{PortFailed}
 use Rattle.command_session.specs.Reply.{Answer}
 use Rattle.command_session.specs.LinesLeft.{SomeRefused}

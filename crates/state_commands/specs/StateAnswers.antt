@@ -2,7 +2,8 @@
 use Rattle.std.specs.Prelude.{◌≡◌, ℕ, Bool, false, IsTrue, List, Ok}
 use Rattle.file_traits.specs.Lists.{NamedBytes, bytes_of}
 use Rattle.unit_files.specs.Attachments.{attachments_of, no_attachments}
-use Rattle.state_transfer.specs.Ports.{assigned, with_ports}
+use Rattle.terminal_ports.specs.Rows.{with_ports}
+use Rattle.state_transfer.specs.Ports.{assigned}
 use Rattle.state_transfer.specs.PutBack.{misses_unit}
 use Rattle.saved_session.specs.Parts.{State}
 use Rattle.saved_session.specs.SavedWatch.{watch_from}

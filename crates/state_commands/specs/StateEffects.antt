@@ -1,6 +1,7 @@
 -- SAVE and RESTORE (SIMH Users' Guide, "Saving and Restoring Simulator State").
 use Rattle.std.specs.Prelude.{ℕ, ◌+◌, ◌==◌, Bool, true, false, List, [], ◌∷◌, drop, Option, Some, None, Result, Ok, Err, if◌then◌else◌}
-use Rattle.host_lines.specs.Traffic.{Answer as LineAnswer, Quiet, Failed, Ahead, Replied, replied, listening}
+use Rattle.host_lines.specs.Traffic.{Answer as LineAnswer, Failed, Replied}
+use Rattle.terminal_ports.specs.Listening.{listening_each}
 use Rattle.unit_trait.specs.declared.kind.UnitName.{UnitName}
 use Rattle.unit_files.specs.Acts.{Failure}
 use Rattle.unit_files.specs.Attachments.{no_attachments}
@@ -106,17 +107,6 @@ refusal_used refusal = 0
 abbrev pub restore_notes : Stamp → RestoreFault → List FaultNote
 restore_notes stamp (restore.Failed f) = fault_note stamp f ∷ []
 restore_notes stamp fault = []
-
--- goes on with what is still to come, unless a listening failed
-abbrev pub unless_failed : LineAnswer → Ahead → (Ahead → Replied) → Replied
-unless_failed Failed ahead more = replied Failed ahead
-unless_failed answer ahead more = more ahead
-
--- ports are listened on, one behind another, up to the first that is not to be had
-unfoldable pub listening_each : List ℕ → Ahead → Replied
-listening_each [] ahead = replied Quiet ahead
-listening_each (port ∷ more) ahead =
-    unless_failed (listening ahead).answer (listening ahead).ahead (listening_each more)
 
 -- the saved session is put back, where all its ports are listened on
 abbrev pub heard_live : LineAnswer → State → Live → Live

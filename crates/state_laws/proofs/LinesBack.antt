@@ -6,12 +6,13 @@ use Rattle.std.proofs.lemmas.Bool.Decides.{nat_tests}
 use Rattle.host_lines.specs.Traffic.{Peer}
 use Rattle.telnet_lines.specs.Line.{LineOf, unconnected}
 use Rattle.terminal_ports.specs.Ports.{changed_at, HavePortsFrom, AreNumbered}
+use Rattle.terminal_ports.specs.Rows.{row_from, with_ports}
+use Rattle.terminal_ports.proofs.RowPorts.{with-both}
 use Rattle.unit_trait.specs.Calls.{UnitState}
 use Rattle.nova_machine.specs.Machine.{has_terminal, has_multiplexer, line_count, place_of as line_place}
 use Rattle.state_transfer.specs.Session.{port_number, saved_ports}
-use Rattle.state_transfer.specs.Ports.{row_from, how_many, is_line, multiplexer_lines, assigned, with_ports}
+use Rattle.state_transfer.specs.Ports.{how_many, is_line, multiplexer_lines, assigned}
 use Rattle.state_transfer.specs.PutBack.{IsIdleLine, lines_from}
-use Rattle.state_transfer.proofs.RowLemmas.{with-both}
 
 -- ---- how many lines a machine has
 

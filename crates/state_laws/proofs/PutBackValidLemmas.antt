@@ -6,6 +6,7 @@ use Rattle.std.proofs.lemmas.Bool.{and_parts, leb-true}
 use Rattle.host_lines.specs.Traffic.{Peer}
 use Rattle.telnet_lines.specs.Line.{LineOf, unconnected}
 use Rattle.terminal_ports.specs.Ports.{changed_at}
+use Rattle.terminal_ports.specs.Rows.{row_from, with_ports}
 use Rattle.nova_machine.specs.Machine.{console_place, place_of as line_place}
 use Rattle.unit_files.specs.Attachments.{Attachment, no_attachments, attachment_at}
 use Rattle.unit_files.specs.Buffer.{disk_unit}
@@ -18,7 +19,7 @@ use Rattle.saved_session.specs.declared.saved.SavedPorts.{SavedPorts}
 use Rattle.saved_session.specs.Ranges.{has_multiplexer, is_among, is_multiplexer_port}
 use Rattle.saved_session.specs.Valid.{ArePorts, Valid}
 use Rattle.saved_files.specs.Putting.{with_all, copy_of}
-use Rattle.state_transfer.specs.Ports.{row_from, how_many, is_line, multiplexer_lines, assigned, with_ports}
+use Rattle.state_transfer.specs.Ports.{how_many, is_line, multiplexer_lines, assigned}
 use Rattle.state_transfer.specs.PutBack.{machine_from, lines_from, put_back}
 use Rattle.state_transfer.specs.SavedValid.{AreStandard}
 use Rattle.state_laws.specs.PutBackValid.{PutBackIsValid}

@@ -1,5 +1,5 @@
 -- Units and events of a saved machine that are put into one, one behind another.
-use Rattle.std.proofs.Common.{◌≡◌, ◌⊎◌, ◌&&◌, append-nil, arith, ℕ, zero, suc, ◌+◌, ◌<◌, ◌≤◌, ◌==◌, Bool, true, false, not, IsTrue, List, [], ◌∷◌, ◌++◌, length, map, take, drop, get_or, Option, Some, None, is_some, inl, inr, refl, sym, ap, subst, ◌∙◌, if◌then◌else◌}
+use Rattle.std.proofs.Common.{◌≡◌, ◌⊎◌, ◌&&◌, append-nil, arith, ℕ, ◌+◌, ◌<◌, ◌≤◌, ◌==◌, Bool, true, false, not, IsTrue, List, [], ◌∷◌, ◌++◌, length, map, take, drop, get_or, Option, Some, None, is_some, inl, inr, refl, sym, ap, subst, ◌∙◌, if◌then◌else◌}
 use Rattle.std.specs.Prelude.{nat_lt, slice_get, option_map}
 use Rattle.std.specs.List.{AllByRecursion, IsDistinct, list_any}
 use Rattle.std.proofs.lemmas.Bool.{false≢true, and_parts, eq-eqb, ltb-true, lt-ltb}
@@ -19,7 +19,8 @@ use Rattle.event_queue.specs.Agenda.{asked_in_order}
 use Rattle.event_queue.proofs.Agendas.{agenda-stands}
 use Rattle.nova_machine.specs.Core.{IsAmong}
 use Rattle.nova_machine.specs.Machine.{MachineState, has_multiplexer, console_place, place_of as line_place}
-use Rattle.terminal_ports.specs.Ports.{changed_at}
+use Rattle.terminal_ports.specs.Rows.{row_from, with_ports}
+use Rattle.terminal_ports.proofs.Rows.{seen-ports}
 use Rattle.nova_machine.specs.Seen.{unnumbered, erased, Beside}
 use Rattle.unit_files.specs.Attachments.{Held, attachments_of, no_attachments}
 use Rattle.saved_session.specs.declared.saved.SavedUnit.{SavedUnit}
@@ -28,7 +29,7 @@ use Rattle.saved_session.specs.declared.saved.SavedPorts.{SavedPorts}
 use Rattle.saved_session.specs.Parts.{unit_in, UnitPart, MachinePart, State}
 use Rattle.state_transfer.specs.Putting.{with_machine_of, IsSeenAs, IsPutBack}
 use Rattle.state_transfer.specs.Listening.{AreClosed}
-use Rattle.state_transfer.specs.Ports.{row_from, how_many, is_line, multiplexer_lines, assigned, with_ports}
+use Rattle.state_transfer.specs.Ports.{how_many, is_line, multiplexer_lines, assigned}
 use Rattle.host_lines.specs.Traffic.{Peer}
 use Rattle.host_lines.specs.Told.{ahead_of}
 use Rattle.host_lines.specs.State.{LineState}
@@ -271,15 +272,6 @@ closed-lines old new [] closed = refl
 closed-lines old new (line ∷ lines) closed =
     λ i. ap (seen_line new) closed.0 i ∷ closed-lines old new lines closed.1 i
 
--- a line that gets a port is seen so
-seen-changed : (s : LineState) (place : ℕ) (port : Option ℕ) (lines : List (LineOf ℕ))
-    → map (seen_line s) (changed_at place (λ (line : LineOf ℕ). unconnected port) lines)
-    ≡ changed_at place (λ (line : LineOf Peer). unconnected port) (map (seen_line s) lines)
-seen-changed s place port [] = refl
-seen-changed s zero port (line ∷ lines) = refl
-seen-changed s (suc place) port (line ∷ lines) =
-    ap (λ (l : List (LineOf Peer)). seen_line s line ∷ l) (seen-changed s place port lines)
-
 -- a line is there where it is seen
 line-there : (s : LineState) (number : ℕ) (lines : List (LineOf ℕ))
     → is_line number (map (seen_line s) lines) ≡ is_line number lines
@@ -296,14 +288,6 @@ same-assigned p s lines = λ i.
     row_from (how_many p.tti1 1 (sym (line-there s 0 lines) i)) (line_place 0) p.tti1
     ++ (row_from (how_many p.qty multiplexer_lines (sym (line-there s multiplexer_lines lines) i)) (line_place 1) p.qty
     ++ row_from (how_many p.console 1 true) console_place p.console)
-
--- lines that get ports are seen so
-seen-ports : (s : LineState) (given : List (ℕ × ℕ)) (lines : List (LineOf ℕ))
-    → map (seen_line s) (with_ports given lines) ≡ with_ports given (map (seen_line s) lines)
-seen-ports s [] lines = refl
-seen-ports s (g ∷ given) lines =
-    seen-ports s given (changed_at g.0 (λ (line : LineOf ℕ). unconnected (Some g.1)) lines)
-    ∙ ap (with_ports given) (seen-changed s g.0 (Some g.1) lines)
 
 port-lines : (p : SavedPorts) (old new : LineState) (lines : List (LineOf ℕ)) → AreClosed lines
     → map (seen_line new) (with_ports (assigned p lines) lines) ≡ lines_from p (map (seen_line old) lines)

@@ -1,63 +1,14 @@
--- Lines in rows, and the ports that they get.
+-- The rows of lines that get the ports of a saved session.
 use Rattle.std.proofs.Common.{◌≡◌, ℕ, zero, suc, ◌+◌, ◌-◌, ◌<◌, ◌≤◌, true, List, [], ◌∷◌, ◌++◌, map, slice_get, slice_set, Some, refl, ap, sym, ◌∙◌, arith}
 use Rattle.telnet_lines.specs.Line.{LineOf, unconnected}
 use Rattle.terminal_ports.specs.Listening.{rising}
-use Rattle.terminal_ports.specs.Ports.{changed_at}
+use Rattle.terminal_ports.specs.Rows.{row_from, with_ports}
 use Rattle.terminal_ports.proofs.PortsApart.{changed-set}
+use Rattle.terminal_ports.proofs.Rows.{none-from, some-from, row-ports, ports-both}
+use Rattle.terminal_ports.proofs.RowPorts.{with-both}
 use Rattle.nova_machine.specs.Machine.{MachineState, console_place, place_of as line_place}
 use Rattle.saved_session.specs.declared.saved.SavedPorts.{SavedPorts}
-use Rattle.state_transfer.specs.Ports.{row_from, how_many, is_line, multiplexer_lines, assigned, ports_wanted, with_ports}
-
--- ---- a row
-
-pub none-from : (n place port : ℕ) → n ≡ 0 → row_from n place port ≡ []
-unfolding row_from
-none-from zero place port none = refl
-none-from (suc n) place port none = absurd (omega (arith, none))
-
-pub some-from : (n place port : ℕ) → 0 < n → row_from n place port ≡ (place, port) ∷ row_from (n - 1) (place + 1) (port + 1)
-unfolding row_from
-some-from zero place port some = absurd (omega (arith, some))
-some-from (suc n) place port some =
-    let left : n ≡ suc n - 1 = omega arith in
-    let next : suc place ≡ place + 1 = omega arith in
-    let behind : suc port ≡ port + 1 = omega arith in
-    λ i. (place, port) ∷ row_from (left i) (next i) (behind i)
-
-row-ports : (n place port : ℕ) → map (λ (g : ℕ × ℕ). g.1) (row_from n place port) ≡ rising n port
-unfolding row_from rising
-row-ports zero place port = refl
-row-ports (suc n) place port = ap (λ (ports : List ℕ). port ∷ ports) (row-ports n (suc place) (suc port))
-
-ports-both : (first second : List (ℕ × ℕ))
-    → map (λ (g : ℕ × ℕ). g.1) (first ++ second) ≡ map (λ (g : ℕ × ℕ). g.1) first ++ map (λ (g : ℕ × ℕ). g.1) second
-ports-both [] second = refl
-ports-both (g ∷ first) second = ap (λ (ports : List ℕ). g.1 ∷ ports) (ports-both first second)
-
--- ---- lines that get ports
-
-pub with-both : {P : Type 0} (first second : List (ℕ × ℕ)) (lines : List (LineOf P))
-    → with_ports (first ++ second) lines ≡ with_ports second (with_ports first lines)
-with-both [] second lines = refl
-with-both {P} (g ∷ first) second lines =
-    with-both first second (changed_at g.0 (λ (line : LineOf P). unconnected (Some g.1)) lines)
-
-pub none-put : {P : Type 0} (n place port : ℕ) (lines : List (LineOf P)) → n ≡ 0 → lines ≡ with_ports (row_from n place port) lines
-none-put n place port lines none = sym (ap (λ (given : List (ℕ × ℕ)). with_ports given lines) (none-from n place port none))
-
--- one line of a row more has its port
-pub one-more : (old m : MachineState) (n number port : ℕ) → 0 < n
-    → m ≡ record old { lines = changed_at (line_place number) (λ (line : LineOf ℕ). unconnected (Some port)) old.lines }
-    → record m { lines = with_ports (row_from (n - 1) (line_place (number + 1)) (port + 1)) m.lines }
-    ≡ record old { lines = with_ports (row_from n (line_place number) port) old.lines }
-one-more old m n number port some becomes =
-    let next : line_place (number + 1) ≡ line_place number + 1 = omega arith in
-    let all : row_from n (line_place number) port
-    ≡ (line_place number, port) ∷ row_from (n - 1) (line_place (number + 1)) (port + 1) =
-    some-from n (line_place number) port some
-    ∙ ap (λ (place : ℕ). (line_place number, port) ∷ row_from (n - 1) place (port + 1)) (sym next) in
-    ap (λ (x : MachineState). record x { lines = with_ports (row_from (n - 1) (line_place (number + 1)) (port + 1)) x.lines }) becomes
-    ∙ sym (ap (λ (given : List (ℕ × ℕ)). record old { lines = with_ports given old.lines }) all)
+use Rattle.state_transfer.specs.Ports.{how_many, is_line, multiplexer_lines, assigned, ports_wanted}
 
 -- the console line has its port
 pub console-put : (n port : ℕ) (lines : List (LineOf ℕ)) (line after : LineOf ℕ) → n ≤ 1 → 0 < n

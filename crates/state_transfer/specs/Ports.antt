@@ -1,14 +1,9 @@
 -- Which lines get the ports of a saved session: 0 is no port.
-use Rattle.std.specs.Prelude.{ℕ, zero, suc, ◌==◌, ◌&&◌, Bool, true, not, List, [], ◌∷◌, ◌++◌, map, slice_get, is_some, Some, if◌then◌else◌}
-use Rattle.telnet_lines.specs.Line.{LineOf, unconnected}
-use Rattle.terminal_ports.specs.Ports.{changed_at}
+use Rattle.std.specs.Prelude.{ℕ, ◌==◌, ◌&&◌, Bool, true, not, List, ◌++◌, map, slice_get, is_some, if◌then◌else◌}
+use Rattle.telnet_lines.specs.Line.{LineOf}
+use Rattle.terminal_ports.specs.Rows.{row_from}
 use Rattle.nova_machine.specs.Machine.{console_place, place_of as line_place}
 use Rattle.saved_session.specs.declared.saved.SavedPorts.{SavedPorts}
-
--- so many lines in a row, the first at that place and with that port: each by its place, with its port
-unfoldable pub row_from : ℕ → ℕ → ℕ → List (ℕ × ℕ)
-row_from zero place port = []
-row_from (suc left) place port = (place, port) ∷ row_from left (suc place) (suc port)
 
 -- How many lines of a row get a port: all of so many where there is a port for the first, and all of them are there; else
 -- none.
@@ -34,8 +29,3 @@ assigned p lines =
 -- the ports that are listened on, in their order
 abbrev pub ports_wanted : {P : Type 0} → SavedPorts → List (LineOf P) → List ℕ
 ports_wanted p lines = map (λ (g : ℕ × ℕ). g.1) (assigned p lines)
-
--- lines with those ports, to which nobody is connected; all others are as they were
-abbrev pub with_ports : {P : Type 0} → List (ℕ × ℕ) → List (LineOf P) → List (LineOf P)
-with_ports [] lines = lines
-with_ports {P} (g ∷ more) lines = with_ports more (changed_at g.0 (λ (line : LineOf P). unconnected (Some g.1)) lines)

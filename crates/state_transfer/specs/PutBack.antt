@@ -5,6 +5,7 @@ use Rattle.file_traits.specs.Lists.{NamedBytes}
 use Rattle.host_lines.specs.Traffic.{Peer}
 use Rattle.telnet_lines.specs.Line.{LineOf, unconnected}
 use Rattle.terminal_ports.specs.Ports.{AreNumbered}
+use Rattle.terminal_ports.specs.Rows.{with_ports}
 use Rattle.unit_trait.specs.declared.kind.Kind.TheVariants.{Qty}
 use Rattle.unit_trait.specs.declared.kind.UnitName.{UnitName}
 use Rattle.unit_trait.specs.Calls.{UnitState}
@@ -25,7 +26,7 @@ use Rattle.saved_session.specs.Ranges.{kind_at}
 use Rattle.saved_session.specs.SavedWatch.{watch_from}
 use Rattle.saved_files.specs.Putting.{with_all, copy_of}
 use Rattle.state_transfer.specs.Processor.{is_set, with_cpu_of}
-use Rattle.state_transfer.specs.Ports.{assigned, with_ports}
+use Rattle.state_transfer.specs.Ports.{assigned}
 
 -- ---- the machine
 

@@ -1,13 +1,13 @@
 // The ports of a saved session are listened on, and its lines get them.
-ghost use Rattle.std.specs.Prelude.{◌≡◌, ◌≢◌, ℕ, ◌+◌, ◌<◌, ◌≤◌, ◌^◌, ◌++◌, Some, [], IsOk, OnOk, OnErr, IfErr};
-ghost use Rattle.telnet_lines.specs.Line.{LineOf, unconnected};
+ghost use Rattle.std.specs.Prelude.{◌≡◌, ◌≢◌, ◌+◌, ◌≤◌, ◌^◌, ◌++◌, [], IsOk, OnOk, OnErr, IfErr};
 ghost use Rattle.terminal_ports.specs.Listening.{rising, ListensEach};
-ghost use Rattle.terminal_ports.specs.Ports.{changed_at};
-ghost use Rattle.nova_machine.specs.Machine.{console_place, place_of as line_place};
+ghost use Rattle.terminal_ports.specs.Rows.{row_from, with_ports};
+ghost use Rattle.nova_machine.specs.Machine.{console_place};
 ghost use Rattle.state_transfer.specs.Listening.{GivesUpEach, IsHeardOn, IsPortFault, port_fault};
-ghost use Rattle.state_transfer.specs.Ports.{row_from, how_many, is_line, assigned, ports_wanted, with_ports};
+ghost use Rattle.state_transfer.specs.Ports.{how_many, is_line, assigned, ports_wanted};
 
 use host_lines::{Lines, ListenFault};
+use line_rows::put_row;
 use nova_machine::Machine;
 use saved_files::RestoreFault;
 use saved_session::SavedPorts;
@@ -107,33 +107,6 @@ fn listen_three<L: Lines>(
 }
 
 // ---- what the lines get
-
-// Gives the terminal line with that number a port, where it is there.
-fn put_one<U: Unit>(machine: &mut Machine<U>, number: u8, port: u16)
-    ensures { machine.new ≡ record machine.old {
-      lines = changed_at (line_place number) (λ (line : LineOf ℕ). unconnected (Some port)) machine.old.lines;
-    } }
-{
-    match machine.line(number) {
-        Some(line) => line.set_port(Some(port)),
-        None => (),
-    }
-}
-
-// Gives the terminal lines of a row their ports, from the one with that number on.
-fn put_row<U: Unit>(machine: &mut Machine<U>, number: u8, port: u32, count: u8)
-    requires numbers { number + count < 2 ^ 8 }
-    requires range { port + count ≤ 2 ^ 16 }
-    ensures { machine.new ≡ record machine.old {
-      lines = with_ports (row_from count (line_place number) port) machine.old.lines;
-    } }
-{
-    if count == 0 {
-        return;
-    }
-    put_one(machine, number, port as u16);
-    put_row(machine, number + 1, port + 1, count - 1);
-}
 
 // Gives the console line a port, or leaves it as it is.
 fn put_console<U: Unit>(machine: &mut Machine<U>, port: u16, count: u8)

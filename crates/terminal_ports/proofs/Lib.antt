@@ -1,2 +1,5 @@
 pub mod Row
 pub mod PortsApart
+pub mod Rows
+pub mod RowPorts
+pub mod RowTold

@@ -1,7 +1,7 @@
 -- Ports that are listened on, one behind another. Where one is not to be had, those before it are given up again.
 use Rattle.std.specs.Prelude.{◌≡◌, ℕ, zero, suc, Bool, IsTrue, List, [], ◌∷◌, ◌++◌, Result, Ok, Err}
 use Rattle.host_lines.specs.declared.lines.ListenFault.{ListenFault}
-use Rattle.host_lines.specs.Traffic.{Quiet, listening}
+use Rattle.host_lines.specs.Traffic.{Answer, Quiet, Failed, Ahead, Replied, replied, listening}
 use Rattle.host_lines.specs.Told.{Told, Gives}
 use Rattle.host_lines.specs.LineCalls.{Listens, ports_after, listen_faults}
 use Rattle.host_lines.specs.State.{LineState, parties, with_one, without_one}
@@ -24,6 +24,16 @@ pub record IsListening (tells : Bool) (port : ℕ) (result : Result (Unit {0}) L
     pub counted : new.faults ≡ listen_faults result old.faults
 
 -- ---- several
+
+-- what comes next is asked of what is then still to come, unless a listening failed
+abbrev pub unless_failed : Answer → Ahead → (Ahead → Replied) → Replied
+unless_failed Failed ahead more = replied Failed ahead
+unless_failed answer ahead more = more ahead
+
+-- ports are listened on, one behind another, up to the first that is not to be had
+unfoldable pub listening_each : List ℕ → Ahead → Replied
+listening_each [] ahead = replied Quiet ahead
+listening_each (port ∷ more) ahead = unless_failed (listening ahead).answer (listening ahead).ahead (listening_each more)
 
 -- which ports are listened on once all of these are, and once they are given up again
 abbrev pub listens_each : List ℕ → (ℕ → Bool) → ℕ → Bool

@@ -1,4 +1,4 @@
-// Sockets on this machine: a byte comes through from a caller, and one goes back.
+// Sockets on this machine: a byte comes through from a caller, and one goes back, on one port and on 64.
 use crate::texts::holds;
 use host_adapters::RealLines;
 use host_lines::{ConnId, Lines, Received};
@@ -224,4 +224,242 @@ fn a_full_socket_takes_nothing(rt: HostRuntime) {
     let found = takes_nothing_when_full(&rt, rt.alloc(), &mut lines);
     is_so(&rt, found, "what was taken has come");
     holds(&rt, lines.faults() == 0, "a full socket is no fault");
+}
+
+/// How many ports there are in a row.
+const ROW: u16 = 64;
+
+/// Whether all ports of a row are listened on; else none of them is.
+fn is_row_free<N: Net>(alloc: Global, lines: &mut RealLines<'_, N>, first: u16) -> bool {
+    for port in first..first.saturating_add(ROW) {
+        if lines.listen(alloc, port).is_err() {
+            for taken in first..port {
+                lines.unlisten(taken);
+            }
+            return false;
+        }
+    }
+    true
+}
+
+/// The first port of a row of which all are listened on then.
+fn free_row<N: Net>(alloc: Global, lines: &mut RealLines<'_, N>) -> Result<u16, &'static str> {
+    for turn in 0..100u16 {
+        let first = 40_000 + 70 * turn;
+        if is_row_free(alloc, lines, first) {
+            return Ok(first);
+        }
+    }
+    Err("no row of ports is free")
+}
+
+/// Asks each port of a row in turn for a caller, so many times, and answers who was let in, and at which port.
+fn first_in_row<N: Net>(
+    lines: &mut RealLines<'_, N>,
+    first: u16,
+    rounds: u64,
+) -> Option<(u16, ConnId)> {
+    for now in 0..rounds {
+        for port in first..first.saturating_add(ROW) {
+            if let Ok(Some(conn)) = lines.accept(port, now) {
+                return Some((port, conn));
+            }
+        }
+    }
+    None
+}
+
+/// Whether the connection is the one on which that byte comes, while the ports of a row are asked in turn.
+fn comes_beside<N: Net>(lines: &mut RealLines<'_, N>, first: u16, conn: ConnId, byte: u8) -> bool {
+    let mut buf = [0];
+    for now in 0..10_000u64 {
+        if first_in_row(lines, first, 1).is_some() {
+            return false;
+        }
+        match lines.receive(conn, &mut buf, now) {
+            Ok(Received::Bytes(1)) => return buf[0] == byte,
+            Ok(Received::NoneYet) => (),
+            _ => return false,
+        }
+    }
+    false
+}
+
+/// Whether a caller of the port at that place of a row is let in there, and nobody elsewhere, and is heard.
+fn is_let_in_at<N: Net>(
+    net: &N,
+    lines: &mut RealLines<'_, N>,
+    first: u16,
+    place: u16,
+) -> Result<bool, &'static str> {
+    let port = first.saturating_add(place);
+    let mut peer = connected(net, port)?;
+    match first_in_row(lines, first, 10_000) {
+        Some((at, conn)) => {
+            Ok(
+                at == port
+                    && comes_after_a_pause(lines, first, conn, &mut peer)
+                    && goes_back(lines, conn, &mut peer, b'B'),
+            )
+        }
+        None => Ok(false),
+    }
+}
+
+/// Whether a byte comes that was sent when the connection had been asked for a while in vain.
+fn comes_after_a_pause<N: Net>(
+    lines: &mut RealLines<'_, N>,
+    first: u16,
+    conn: ConnId,
+    peer: &mut TcpStream,
+) -> bool {
+    let mut buf = [0];
+    for now in 0..100u64 {
+        if lines.receive(conn, &mut buf, now) != Ok(Received::NoneYet) {
+            return false;
+        }
+    }
+    is_sent(peer, b'A') && comes_beside(lines, first, conn, b'A')
+}
+
+fn each_is_found<N: Net>(
+    net: &N,
+    alloc: Global,
+    lines: &mut RealLines<'_, N>,
+) -> Result<bool, &'static str> {
+    let first = free_row(alloc, lines)?;
+    if first_in_row(lines, first, 200).is_some() {
+        return Err("nobody has called yet");
+    }
+    let found = is_let_in_at(net, lines, first, 39)?
+        && is_let_in_at(net, lines, first, 63)?
+        && is_let_in_at(net, lines, first, 0)?;
+    Ok(found && lines.faults() == 0)
+}
+
+// Nobody has called any of 64 ports for a while; then somebody calls the 40th, the last and the first.
+#[test]
+fn a_caller_is_found_among_64_ports(rt: HostRuntime) {
+    let mut lines = RealLines::new(rt.alloc(), &rt);
+    let found = each_is_found(&rt, rt.alloc(), &mut lines);
+    is_so(&rt, found, "a caller at its port, and a byte each way");
+}
+
+/// Whether a connection that its caller has left ends, where it was asked for a while in vain before.
+fn ends_when_left<N: Net>(lines: &mut RealLines<'_, N>, port: u16, peer: TcpStream) -> bool {
+    let Some(conn) = accepted(lines, port) else {
+        return false;
+    };
+    let mut buf = [0];
+    for now in 0..100u64 {
+        if lines.receive(conn, &mut buf, now) != Ok(Received::NoneYet) {
+            return false;
+        }
+    }
+    drop(peer);
+    for now in 0..10_000u64 {
+        if lines.receive(conn, &mut buf, now) == Ok(Received::HungUp) {
+            return true;
+        }
+    }
+    false
+}
+
+fn a_leaver_is_seen<N: Net>(
+    net: &N,
+    alloc: Global,
+    lines: &mut RealLines<'_, N>,
+) -> Result<bool, &'static str> {
+    let port = free_port(alloc, lines)?;
+    let first = connected(net, port)?;
+    if !ends_when_left(lines, port, first) {
+        return Ok(false);
+    }
+    let mut second = connected(net, port)?;
+    Ok(are_exchanged(lines, port, &mut second) && lines.faults() == 0)
+}
+
+// A hang-up is seen though nothing had come before, and the next caller is let in.
+#[test]
+fn a_caller_who_leaves_is_seen(rt: HostRuntime) {
+    let mut lines = RealLines::new(rt.alloc(), &rt);
+    let found = a_leaver_is_seen(&rt, rt.alloc(), &mut lines);
+    is_so(&rt, found, "a hang-up, and a caller behind it");
+}
+
+fn is_sent_again<N: Net>(
+    net: &N,
+    alloc: Global,
+    lines: &mut RealLines<'_, N>,
+) -> Result<bool, &'static str> {
+    let port = free_port(alloc, lines)?;
+    let mut peer = connected(net, port)?;
+    if !is_filled(lines, port, &mut peer)? {
+        return Ok(false);
+    }
+    Ok(lines.faults() == 0 && takes_again(lines, &mut peer))
+}
+
+/// Whether the connection of the first number takes a byte once its caller has read what stood there.
+fn takes_again<N: Net>(lines: &mut RealLines<'_, N>, peer: &mut TcpStream) -> bool {
+    let mut buf = [0];
+    for now in 0..10_000u64 {
+        if lines.send(ConnId(0), b"again", now) == Ok(5) {
+            return drained(peer, 5) == 5
+                && lines.receive(ConnId(0), &mut buf, now) == Ok(Received::NoneYet);
+        }
+    }
+    false
+}
+
+// What a full socket did not take it takes when its caller has read: calls that send rest no longer then.
+#[test]
+fn a_full_socket_takes_again(rt: HostRuntime) {
+    let mut lines = RealLines::new(rt.alloc(), &rt);
+    let found = is_sent_again(&rt, rt.alloc(), &mut lines);
+    is_so(&rt, found, "a full socket that was read");
+}
+
+/// A caller of each port of a row.
+fn call_all<N: Net>(net: &N, alloc: Global, first: u16) -> Result<Vec<TcpStream>, &'static str> {
+    let mut peers = Vec::new(alloc);
+    for port in first..first.saturating_add(ROW) {
+        let peer = connected(net, port)?;
+        if peers.push(peer).is_err() {
+            return Err("no memory for callers");
+        }
+    }
+    Ok(peers)
+}
+
+/// How many callers of a row are let in within a while.
+fn let_in<N: Net>(lines: &mut RealLines<'_, N>, first: u16) -> usize {
+    let mut count = 0usize;
+    for now in 0..10_000u64 {
+        for port in first..first.saturating_add(ROW) {
+            if let Ok(Some(_)) = lines.accept(port, now) {
+                count = count.saturating_add(1);
+            }
+        }
+    }
+    count
+}
+
+fn all_are_let_in<N: Net>(
+    net: &N,
+    alloc: Global,
+    lines: &mut RealLines<'_, N>,
+) -> Result<bool, &'static str> {
+    let first = free_row(alloc, lines)?;
+    let peers = call_all(net, alloc, first)?;
+    let count = let_in(lines, first);
+    Ok(count == peers.len() && lines.faults() == 0)
+}
+
+// There is room for a connection of each port.
+#[test]
+fn callers_of_all_64_ports_are_let_in(rt: HostRuntime) {
+    let mut lines = RealLines::new(rt.alloc(), &rt);
+    let found = all_are_let_in(&rt, rt.alloc(), &mut lines);
+    is_so(&rt, found, "64 callers");
 }

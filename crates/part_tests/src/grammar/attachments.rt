@@ -23,11 +23,17 @@ AT PTR -E|Attach - PTR 0 7 9|-E
 AT PTR ;no comment|Attach - PTR 0 7 18|;no comment
 AT PTR \u{e9}\u{20ac}|Attach - PTR 0 7 12|\u{e9}\u{20ac}";
 
-const ATTACH_TAKES_A_PORT_FOR_THE_SECOND_TERMINAL: &str = "AT TTI1 4000|AttachPort TTI1 4000
+const ATTACH_TAKES_A_PORT_FOR_TERMINAL_LINES: &str = "AT TTI1 4000|AttachPort TTI1 4000
 at tti1 0|AttachPort TTI1 0
 ATTACH TTI1 0007|AttachPort TTI1 7
 AT TTI1 65536 \t|AttachPort TTI1 65536
-AT TTI1 9223372036854775809|AttachPort TTI1 max";
+AT TTI1 9223372036854775809|AttachPort TTI1 max
+ATTACH QTY 5000|AttachPort QTY 5000
+at qty 0|AttachPort QTY 0
+\tATT\tQty\t00065472\t|AttachPort QTY 65472
+AT QTY 65473|AttachPort QTY 65473
+AT QTY 9223372036854775808|AttachPort QTY 9223372036854775808
+AT QTY 9223372036854775809|AttachPort QTY max";
 
 const DETACH_TAKES_A_UNIT_OR_ALL: &str = "DETACH ALL|Detach -
 det all |Detach -
@@ -35,12 +41,14 @@ DET PTR|Detach PTR 0
 deta lpt\t|Detach LPT 0
 DETACH MTA|Detach MTA 0
 DETACH mta5|Detach MTA 5
-DET TTI1|Detach TTI1 0";
+DET TTI1|Detach TTI1 0
+DETACH QTY|Detach QTY 0
+det qty\t|Detach QTY 0";
 
 #[test]
 fn attach_and_detach_take_a_unit(rt: HostRuntime) {
     all(&rt, ATTACH_TAKES_AN_OPTION_A_UNIT_AND_THE_REST_OF_THE_LINE);
-    all(&rt, ATTACH_TAKES_A_PORT_FOR_THE_SECOND_TERMINAL);
+    all(&rt, ATTACH_TAKES_A_PORT_FOR_TERMINAL_LINES);
     all(&rt, DETACH_TAKES_A_UNIT_OR_ALL);
 }
 
@@ -52,8 +60,17 @@ AT TTI1 |Missing
 AT TTI1 X|BadNumber 8
 AT TTI1 -1 2|BadNumber 8
 AT TTI1 1 X|Extra 10
+AT QTY|Missing
+AT QTY \t|Missing
+AT QTY lines|BadNumber 7
+AT QTY -1 2|BadNumber 7
+AT QTY 5000/64|BadNumber 7
+AT QTY 5000 X|Extra 12
 AT -E TTI1 1|BadName 6
 AT -r  tti1|BadName 7
+AT -N QTY 5000|BadName 6
+AT -E QTY tape|BadName 6
+at -r  qty|BadName 7
 AT -X PTR p|BadName 3
 AT -EN PTR p|BadName 3
 AT E PTR p|BadName 3
@@ -63,7 +80,9 @@ AT 5 p|BadNumber 3
 AT CLK p|BadName 3
 AT TTI p|BadName 3
 AT TTO1 p|BadName 3
-AT QTY 1|BadName 3
+AT QTY0 1|BadName 3
+AT QTY5 5000|BadName 3
+AT qty63 1|BadName 3
 AT ALL p|BadName 3
 AT MTA8 p|BadName 3
 AT MTA07 p|BadName 3
@@ -71,11 +90,14 @@ DET|Missing
 DETACH \t|Missing
 DET CLK|BadName 4
 DET  MTA8 X|BadName 5
+DET QTY5|BadName 4
+DET  qty0 X|BadName 5
 DET -E PTR|BadName 4
 DET 5|BadNumber 4
 DET PTR PTP|Extra 8
 DET ALL  X|Extra 9
-DET TTI1 1|Extra 9";
+DET TTI1 1|Extra 9
+DET QTY 5|Extra 8";
 
 #[test]
 fn answers_the_first_fault_of_attach_and_detach(rt: HostRuntime) {

@@ -53,6 +53,8 @@ show send|ShowSend
 SHOW VERSION|ShowVersion
 SHOW PTR|ShowUnit PTR 0
 SHOW tti1|ShowUnit TTI1 0
+SHOW QTY|ShowUnit QTY 0
+sh qty \t|ShowUnit QTY 0
 SHOW MTA|ShowUnit MTA 0
 SHOW mta7|ShowUnit MTA 7";
 
@@ -97,12 +99,17 @@ E =5 -M ALL|BadName 5
 E -M -M 1|BadName 5
 E 0,1,2,3,4,5,6,7,0,1,2,3,4,5,6,7,0|BadNumber 2
 E C,1,2,3,4,5,6,7,0,1,2,3,4,5,6,7,0|BadName 2
-E QTY STATE|Extra 6
+E QTY|Missing
+E QTY5 STATE|Extra 7
+E QTY 1 BUSY|Extra 8
 E 1 2|Extra 4
 E 1 =5|Extra 4
 E TTI TTO BUF|Extra 10
 D|Missing
 D -M TTI |Missing
+D QTY |Missing
+D QTY TIME|Missing
+D QTY TIME 8|BadNumber 11
 D 8 1|BadNumber 2
 D =5 0 1|BadName 2
 D 0|Missing
@@ -135,7 +142,10 @@ SHOW 5|BadNumber 5
 SHOW TTI|BadName 5
 SHOW CLK|BadName 5
 SHOW TTO1|BadName 5
-SHOW QTY|BadName 5
+SHOW QTY0|BadName 5
+SHOW QTY5|BadName 5
+SHOW qty63|BadName 5
+SHOW QTY 5|Extra 9
 SHOW MTA8|BadName 5
 SHOW MTA07|BadName 5
 SHOW PTR0|BadName 5

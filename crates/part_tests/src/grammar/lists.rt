@@ -122,7 +122,15 @@ E -M tto1 PC,5|Items -M TTO1 Unknown At:5
 E TTI TTO|Items TTI Unknown
 D DSK DONE 1|Items DSK Reg:1
 D -M 5,6 HALT|Items -M CPU At:5 At:6
-E QTY|Items CPU Unknown
+E QTY BUSY,DONE,TIME|Items QTY Reg:0 Reg:1 Reg:2
+E QTY RX0,RX5,RX9,RX10,RX63,TX0,TX5,TX63|Items QTY Reg:3 Reg:8 Reg:12 Reg:13 Reg:66 Reg:67 Reg:72 Reg:130
+e qty state,rx8,Tx9|Items QTY State Reg:11 Reg:76
+E QTY RX64,TX64,RX,TX,RX05,RX_5,BUF,SEL|Items QTY Unknown Unknown Unknown Unknown Unknown Unknown Unknown Unknown
+E QTY 5,ALL|Items QTY At:5 All
+D QTY TX3 501|Items QTY Reg:70
+E QTY5|Items CPU Unknown
+E QTY,QTY0,RX0,TX63|Items CPU Unknown Unknown Unknown Unknown
+E TTI1 RX0|Items TTI1 Unknown
 E 0,1,2,3,4,5,6,7,10,11,12,13,C,ALL,STATE,X|Items CPU At:0 At:1 At:2 At:3 At:4 At:5 At:6 At:7 At:8 At:9 At:10 At:11 Reg:4 All State Unknown";
 
 const READS_CONDITIONS: &str = "E ALL|Where -

@@ -39,7 +39,11 @@ AS tti foo=0|Assert TTI Unknown Eq 0
 AS XYZ=40000000000|Assert CPU Unknown Eq max
 AS 40000000000=0|Assert CPU At:max Eq 0
 AS PTR 100=0 |Assert PTR At:0o100 Eq 0
-AS PTR=0|Assert CPU Unknown Eq 0";
+AS PTR=0|Assert CPU Unknown Eq 0
+AS QTY RX5=501|Assert QTY Reg:8 Eq 0o501
+as qty tx63!=0|Assert QTY Reg:130 Ne 0
+AS QTY RX64=0|Assert QTY Unknown Eq 0
+AS QTY5=0|Assert CPU Unknown Eq 0";
 
 const SCRIPTS_HAVE_ONE_FAULT: &str = "DO|Missing
 DO \t|Missing
@@ -70,6 +74,9 @@ AS 0/1=0|BadNumber 3
 AS ALL=0|BadName 3
 AS STATE=0|BadName 3
 AS tti STATE=0|BadName 7
+AS QTY|Missing
+AS QTY STATE=0|BadName 7
+AS QTY5 RX0=0|BadName 3
 AS TTI 8=0|BadNumber 7
 AS AC0=0 1|Extra 9
 AS AC0,PC=0|BadName 3

@@ -20,6 +20,7 @@ SET \t|Missing
 SET 8|BadNumber 4
 SET PTR|BadName 4
 SET TTI DISCONNECT|BadName 4
+SET QTY DISCONNECT|BadName 4
 SET CP 8K|BadName 4
 SET CPU|Missing
 SET CPU 8|BadNumber 8

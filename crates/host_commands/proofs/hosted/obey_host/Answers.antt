@@ -21,7 +21,7 @@ use Rattle.command_session.proofs.PortAnswerLemmas.{stays}
 use Rattle.command_session.proofs.RemainLemmas.{undone-as, undone-none}
 use Rattle.command_session.proofs.StepLemmas.{stays-alone}
 use Rattle.host_commands.specs.DoEffects.{do_reply}
-use Rattle.host_commands.specs.HostEffect.{host_effect, HostWorks, HostLines}
+use Rattle.host_commands.specs.HostEffect.{host_effect, HostWorks, HostLines, MissesUnit}
 use Rattle.host_commands.proofs.HostAnswers.{do-tables, load-tables}
 use Rattle.host_commands.proofs.HostLemmas.{plain-did, noted-did, kept-as}
 use Rattle.host_commands.proofs.StepLemmas.{held-step}
@@ -153,7 +153,7 @@ returns-in-AttachPort-clause-told g c = λ told step whole first tells printed.
     let text = output printed ports.sent in
     subst (λ (h : Heard). Did (λ own. host_effect own live c.args.command.now) s.command c.attach_port.result (live_in new (beyond state.files ports' whole)) tells
     text (output printed h) (notes_said s.notes) (notes_said new.notes)) (sym c.attach_port.ensures.sent)
-    (plain-did s.command live (live_in new (beyond state.files ports' whole)) c.args.command.now (AttachPort what.kind what.port) (attach_port_reply live what.port) c.attach_port.result tells
+    (plain-did s.command live (live_in new (beyond state.files ports' whole)) c.args.command.now (AttachPort what.kind what.port) (attach_port_reply live what.kind what.port) c.attach_port.result tells
     text text (notes_said s.notes) (notes_said new.notes) is (λ own. refl) (ap (λ (x : CommandState). notes_said x.notes) c.attach_port.ensures.rest)
     (c.attach_port.ensures.told both.0 both.1 whole first state.files tells text))
 
@@ -506,3 +506,11 @@ returns-in-Detach-clause-step g c = λ told.
 pub returns-in-Exit-clause-step : goal.returns-in-Exit-clause-step
 returns-in-Exit-clause-step g c = λ told.
     stays-alone c.args.session.now c.exit.new.session (g.F.Files.state c.args.files.now).files (g.F.Files.state c.exit.new.files).files c.exit.ensures.step
+
+pub returns-in-AttachPort-clause-missing : goal.returns-in-AttachPort-clause-missing
+returns-in-AttachPort-clause-missing g c =
+    subst (λ (r : Request). MissesUnit r c.attach_port.result c.args.session.now.machine.units) (sym (sym c.command.view_is ∙ ap (request_of _) c.in-AttachPort.is)) c.attach_port.ensures.missing
+
+pub returns-in-Detach-clause-missing : goal.returns-in-Detach-clause-missing
+returns-in-Detach-clause-missing g c =
+    subst (λ (r : Request). MissesUnit r c.detach_one_or_every.result c.args.session.now.machine.units) (sym (sym c.command.view_is ∙ ap (request_of _) c.in-Detach.is)) c.detach_one_or_every.ensures.missing

@@ -14,6 +14,8 @@ use Rattle.command_session.proofs.KeptLemmas.{lines-kept, keeps-none, port-no-fi
 use Rattle.command_session.specs.PortAnswers.{DetachesUnit, detaches_by}
 use Rattle.command_session.proofs.PortAnswerLemmas.{stays}
 use Rattle.command_session.proofs.StepLemmas.{step-unchanged}
+use Rattle.host_commands.specs.HostEffect.{MissesUnit}
+use Rattle.host_commands.proofs.PortFaults.{not-missing}
 use Rattle.host_commands.proofs.unit_commands.detach_one_or_every.Goals as goal
 
 pub returns-in-None-clause-told : goal.returns-in-None-clause-told
@@ -38,9 +40,9 @@ returns-in-Some-clause-told g c = λ told step whole tells text.
     let is : is_terminal unit ≡ true = sym c.is_terminal.ensures ∙ c.if-is_terminal.true in
     let named = subst (λ (u : Option UnitName). IsTold g.F.Files.tells s.machine.slots g.L.Lines.tells old s.machine.lines (Detach u)) c.in-Some.is told in
     let lined = subst (λ (b : Bool). told_by (if b then Ported else Nothing) g.F.Files.tells s.machine.slots g.L.Lines.tells old s.machine.lines) is named in
-    did-of (λ (own : List CommandNote). detach_one_or_all own live c.args.unit) (detach_port_reply live) s.command c.detach_port.result
+    did-of (λ (own : List CommandNote). detach_one_or_all own live c.args.unit) (detach_port_reply live unit.kind) s.command c.detach_port.result
     (live_in new (beyond files (g.L.Lines.state c.detach_port.new.lines) whole)) tells text text (notes_said s.notes) (notes_said new.notes)
-    (λ own. ap (λ u. detach_one_or_all own live u) c.in-Some.is ∙ ap (λ (b : Bool). if b then detach_port_reply live else detach_reply own live unit) is)
+    (λ own. ap (λ u. detach_one_or_all own live u) c.in-Some.is ∙ ap (λ (b : Bool). if b then detach_port_reply live unit.kind else detach_reply own live unit) is)
     (ap (λ (x : CommandState). notes_said x.notes) c.detach_port.ensures.rest) (c.detach_port.ensures.told lined whole files tells text)
 
 pub returns-in-Some-clause-keeps : goal.returns-in-Some-clause-keeps
@@ -59,7 +61,7 @@ returns-in-Some-2-clause-told g c = λ told step whole tells text.
     let other : is_terminal unit ≡ false = ap is_terminal (sym same) ∙ sym c.is_terminal.ensures ∙ c.if-is_terminal.false in
     did-as (λ own. detach_one_or_all own live c.args.unit) (λ own. detach_reply own live unit) s.command c.detach.result
     (live_in new (beyond (g.F.Files.state c.detach.new.files).files old whole)) tells text text (notes_said s.notes) (notes_said new.notes)
-    (λ own. ap (λ u. detach_one_or_all own live u) c.in-Some-2.is ∙ ap (λ (b : Bool). if b then detach_port_reply live else detach_reply own live unit) other) (c.detach.ensures.told step old whole tells text)
+    (λ own. ap (λ u. detach_one_or_all own live u) c.in-Some-2.is ∙ ap (λ (b : Bool). if b then detach_port_reply live unit.kind else detach_reply own live unit) other) (c.detach.ensures.told step old whole tells text)
 
 pub returns-in-Some-2-clause-left : goal.returns-in-Some-2-clause-left
 returns-in-Some-2-clause-left g c =
@@ -78,7 +80,7 @@ returns-in-Some-clause-line g c =
     let lines' = c.detach_port.new.session.machine.lines in
     let is : is_terminal c.in-Some.unit ≡ true = sym c.is_terminal.ensures ∙ c.if-is_terminal.true in
     subst (λ (u : Option UnitName). DetachesUnit u c.detach_port.result old lines new lines') (sym c.in-Some.is)
-    (subst (λ (b : Bool). detaches_by b c.detach_port.result old lines new lines') (sym is) c.detach_port.ensures.line)
+    (subst (λ (b : Bool). detaches_by b c.in-Some.unit.kind c.detach_port.result old lines new lines') (sym is) c.detach_port.ensures.line)
 
 pub returns-in-Some-2-clause-line : goal.returns-in-Some-2-clause-line
 returns-in-Some-2-clause-line g c =
@@ -88,7 +90,7 @@ returns-in-Some-2-clause-line g c =
     let same : c.in-Some.unit ≡ c.in-Some-2.unit = same_Some c.in-Some.unit c.in-Some-2.unit (sym c.in-Some.is ∙ c.in-Some-2.is) in
     let other : is_terminal c.in-Some-2.unit ≡ false = ap is_terminal (sym same) ∙ sym c.is_terminal.ensures ∙ c.if-is_terminal.false in
     subst (λ (u : Option UnitName). DetachesUnit u c.detach.result old lines old lines') (sym c.in-Some-2.is)
-    (subst (λ (b : Bool). detaches_by b c.detach.result old lines old lines') (sym other) (stays old lines lines' c.detach.ensures.terminals))
+    (subst (λ (b : Bool). detaches_by b c.in-Some-2.unit.kind c.detach.result old lines old lines') (sym other) (stays old lines lines' c.detach.ensures.terminals))
 
 pub returns-in-Some-clause-step : goal.returns-in-Some-clause-step
 returns-in-Some-clause-step g c =
@@ -124,3 +126,20 @@ returns-in-Some-2-clause-answers g c =
     let other : is_terminal c.in-Some-2.unit ≡ false = ap is_terminal (sym same) ∙ sym c.is_terminal.ensures ∙ c.if-is_terminal.false in
     subst (λ (u : Option UnitName). OfDetach u c.detach.result) (sym c.in-Some-2.is)
     (subst (λ (b : Bool). of_unit b c.in-Some-2.unit c.detach.result) (sym other) c.detach.ensures.answers)
+
+-- ---- a machine without a multiplexer
+
+pub returns-in-None-clause-missing : goal.returns-in-None-clause-missing
+returns-in-None-clause-missing g c =
+    subst (λ (u : Option UnitName). MissesUnit (Detach u) c.detach_every.result c.args.session.now.machine.units) (sym c.in-None.is) tt
+
+pub returns-in-Some-clause-missing : goal.returns-in-Some-clause-missing
+returns-in-Some-clause-missing g c =
+    subst (λ (u : Option UnitName). MissesUnit (Detach u) c.detach_port.result c.args.session.now.machine.units) (sym c.in-Some.is) c.detach_port.ensures.missing
+
+pub returns-in-Some-2-clause-missing : goal.returns-in-Some-2-clause-missing
+returns-in-Some-2-clause-missing g c =
+    let same : c.in-Some.unit ≡ c.in-Some-2.unit = same_Some c.in-Some.unit c.in-Some-2.unit (sym c.in-Some.is ∙ c.in-Some-2.is) in
+    let other : is_terminal c.in-Some-2.unit ≡ false = ap is_terminal (sym same) ∙ sym c.is_terminal.ensures ∙ c.if-is_terminal.false in
+    subst (λ (u : Option UnitName). MissesUnit (Detach u) c.detach.result c.args.session.now.machine.units) (sym c.in-Some-2.is)
+    (not-missing c.in-Some-2.unit c.detach.result c.args.session.now.machine.units other)

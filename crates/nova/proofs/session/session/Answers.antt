@@ -1,4 +1,4 @@
-use Rattle.std.proofs.Common.{Option, subst}
+use Rattle.std.proofs.Common.{Option, subst, map}
 use Rattle.nova_machine.specs.Machine.{MachineState}
 use Rattle.nova_top.specs.Ends.{LinesAtEnd}
 use Rattle.nova.proofs.session.session.Goals as goal
@@ -34,5 +34,5 @@ returns-clause-no_keys g c = rw c.from.ensures c.simulate-ending.ensures.no_keys
 
 pub returns-clause-unasked : goal.returns-clause-unasked
 returns-clause-unasked g c = λ bad.
-    subst (λ (machine : Option MachineState). LinesAtEnd machine (g.L.Lines.state c.args.lines.now) (g.L.Lines.state c.simulate-ending.new.lines)) (c.simulate-ending.ensures.machine.none bad)
+    subst (λ (machine : Option MachineState). LinesAtEnd (map g.U.Unit.unit_state c.args.units.items) machine (g.L.Lines.state c.args.lines.now) (g.L.Lines.state c.simulate-ending.new.lines)) (c.simulate-ending.ensures.machine.none bad)
     c.simulate-ending.ensures.ports

@@ -33,7 +33,7 @@ returns-clause-ended g c = (
       (lines-told c.args.session c.perform-finish.new.session _ c.args.opening.now old (beyond (g.F.Files.state c.perform-finish.new.files).files (g.L.Lines.state c.perform-finish.new.lines) whole)
       (g.C.Source.left c.args.input.now) (g.C.Source.left c.perform-finish.new.input) before after c.perform-finish.result c.session.view_is c.perform-finish.ensures.keys)
       (c.perform-finish.ensures.told (omega (arith, c.requires.command, c.requires.budget)) source used
-      (λ tells. apart-at-first (g.L.Lines.state c.args.lines.now) c.args.session.machine.lines c.requires.lines) sink
+      (λ tells. apart-at-first c.args.session.machine.units (g.L.Lines.state c.args.lines.now) c.args.session.machine.lines c.requires.lines) sink
       (bare-step c.args.session.machine (g.F.Files.state c.args.files.now).files c.requires.bare) whole first)),
   c.perform-finish.ensures.cause,
 )
@@ -42,7 +42,7 @@ pub returns-clause-ports : goal.returns-clause-ports
 returns-clause-ports g c =
     let old = g.L.Lines.state c.args.lines.now in
     let new = g.L.Lines.state c.perform-finish.new.lines in
-    lines-at-end g.L.Lines.tells old new c.args.session.machine.lines c.session.inside.machine c.requires.lines
+    lines-at-end c.args.session.machine.units g.L.Lines.tells old new c.args.session.machine.lines c.session.inside.machine c.requires.lines
     (subst (λ (s : CommandState). LinesLeft g.L.Lines.tells old c.args.session.machine.lines new s.machine.lines) (sym c.session.view_is) c.perform-finish.ensures.lines)
 
 pub returns-clause-unwritten : goal.returns-clause-unwritten

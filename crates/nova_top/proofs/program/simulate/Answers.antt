@@ -19,14 +19,15 @@ use Rattle.program_start.specs.WordFiles.{AreWordClosings, NamesTold, StartsWith
 use Rattle.nova_top.specs.Ends.{InputTells, HasKeysFile, HasScript}
 use Rattle.program_start.specs.Start.{Begins}
 use Rattle.nova_top.specs.Program.{OpensAs, script_text}
+use Rattle.command_words.proofs.StandardLemmas.{in-bus-order}
 use Rattle.nova_top.proofs.OpeningLemmas.{text-begins, opens}
 use Rattle.nova_top.proofs.UsedLemmas.{words-named, course-told}
 use Rattle.command_words.specs.Words.{options_of, texts_of}
 use Rattle.command_words.specs.declared.options.Options.{Options}
 use Rattle.program_start.specs.Workload.{with_workload}
-use Rattle.nova_top.proofs.ProgramLemmas.{Begun, Made, begun-files, begun-lines, new-slots, new-standard, workload-given, kept-exact, refused-exact, no-exact, usage-answer, files-answer, files-memory, files-status, files-cause, session-answer, memory-answer, session-cause, session-status, refused-status, kept-counted, refused-counted, complete-answer, never-unwritten, denied-unwritten, unwritten-whole}
+use Rattle.nova_top.proofs.ProgramLemmas.{Begun, Made, begun-files, begun-lines, new-kinds, new-slots, new-standard, workload-given, kept-exact, refused-exact, no-exact, usage-answer, files-answer, files-memory, files-status, files-cause, session-answer, memory-answer, session-cause, session-status, refused-status, kept-counted, refused-counted, complete-answer, never-unwritten, denied-unwritten, unwritten-whole}
 use Rattle.nova_top.proofs.CountLemmas.{no-openings, refused-openings, session-openings}
-use Rattle.nova_top.proofs.PortLemmas.{lines-unasked}
+use Rattle.nova_top.proofs.PortLemmas.{lines-unasked, lines-of-kinds}
 use Rattle.nova_top.proofs.ResumptionLemmas.{resumes-saved}
 use Rattle.nova_top.proofs.UnsaidLemmas.{says-no-more, without-notes, either-said, or-said}
 use Rattle.nova_top.proofs.UnreadLemmas.{usage-opened, refused-unopened, refused-keys, refused-measured, session-opened, session-keys, session-measured}
@@ -43,7 +44,7 @@ named g words options chosen told = words-named g.F.Files.tells (texts_of words)
 
 pub returns-in_default-clause-outcome : goal.returns-in_default-clause-outcome
 returns-in_default-clause-outcome g c = λ source used sink other whole first.
-    inr (usage-answer (texts_of c.args.words.now) (g.C.Source.left c.args.input.now) (g.S.Sink.written c.args.output.now) (g.S.Sink.written c.usage.new.output)
+    inr (usage-answer (map g.U.Unit.unit_state c.args.units.items) (texts_of c.args.words.now) (g.C.Source.left c.args.input.now) (g.S.Sink.written c.args.output.now) (g.S.Sink.written c.usage.new.output)
     (beyond (g.F.Files.state c.args.files.now).files (g.L.Lines.state c.args.lines.now) whole) c.usage.result.status c.usage.result.machine c.usage.result.faults.items
     (sym c.options_of.ensures.options ∙ c.in_default.is) c.usage.ensures.machine c.usage.ensures.notes (c.usage.ensures.told sink))
 
@@ -54,9 +55,9 @@ returns-in_default-clause-complete g c = λ source used sink other quiet fed non
     let is = refused-status 100 c.usage.result.status (g.S.Sink.fault_count c.args.output.now) (g.S.Sink.fault_count c.usage.new.output) c.usage.ensures.cause quiet in
     let counted = subst (λ (items : List FaultNote). AreCounted items was was) (sym c.usage.ensures.notes) (counted-none was) in
     either-said
-    (without-notes g.L.Lines.tells (texts_of c.args.words.now) (g.C.Source.left c.args.input.now) (g.C.Source.left c.args.input.now) (g.S.Sink.written c.args.output.now) (g.S.Sink.written c.usage.new.output) old old
+    (without-notes g.L.Lines.tells (map g.U.Unit.unit_state c.args.units.items) (texts_of c.args.words.now) (g.C.Source.left c.args.input.now) (g.C.Source.left c.args.input.now) (g.S.Sink.written c.args.output.now) (g.S.Sink.written c.usage.new.output) old old
     c.usage.result.faults.items was was counted none)
-    (complete-answer (texts_of c.args.words.now) (g.C.Source.left c.args.input.now) (g.C.Source.left c.args.input.now) (g.S.Sink.written c.args.output.now) (g.S.Sink.written c.usage.new.output) old old
+    (complete-answer (map g.U.Unit.unit_state c.args.units.items) (texts_of c.args.words.now) (g.C.Source.left c.args.input.now) (g.C.Source.left c.args.input.now) (g.S.Sink.written c.args.output.now) (g.S.Sink.written c.usage.new.output) old old
     c.usage.result.status c.usage.result.machine c.usage.result.faults.items was was ((λ s. omega (arith, is, s)), (λ s. omega (arith, is, s)))
     counted none)
     (returns-in_default-clause-outcome g c source used sink other whole first)
@@ -66,7 +67,7 @@ returns-in_default-clause-complete g c = λ source used sink other quiet fed non
 pub returns-in-Err-clause-outcome : goal.returns-in-Err-clause-outcome
 returns-in-Err-clause-outcome g c = λ source used sink other whole first.
     let lines = g.L.Lines.state c.args.lines.now in
-    inr (files-answer (texts_of c.args.words.now) c.in-Some.options (g.C.Source.left c.args.input.now) (g.S.Sink.written c.args.output.now) (g.S.Sink.written c.refuse_files.new.output)
+    inr (files-answer (map g.U.Unit.unit_state c.args.units.items) (texts_of c.args.words.now) c.in-Some.options (g.C.Source.left c.args.input.now) (g.S.Sink.written c.args.output.now) (g.S.Sink.written c.refuse_files.new.output)
     (beyond (g.F.Files.state c.args.files.now).files lines whole) (beyond (g.F.Files.state c.begin.new.files).files lines whole) c.in-Err.refusal c.refuse_files.result.status c.refuse_files.result.machine
     c.begin.new.notes.items c.refuse_files.result.faults.items (sym c.options_of.ensures.options ∙ c.in-Some.is) (c.in-Err.ensures.told (named g c.args.words.now c.in-Some.options (sym c.options_of.ensures.options ∙ c.in-Some.is) used.names)) c.refuse_files.ensures.machine
     (ap (λ (f : List NamedBytes). beyond f lines whole) (c.begin.ensures.files (named g c.args.words.now c.in-Some.options (sym c.options_of.ensures.options ∙ c.in-Some.is) used.names))) other (c.refuse_files.ensures.told sink) (c.refuse_files.ensures.notes ∙ c.notes_of.ensures))
@@ -79,9 +80,9 @@ returns-in-Err-clause-complete g c = λ source used sink other quiet fed none wh
     let status = files-status (texts_of c.args.words.now) c.in-Err.refusal c.refuse_files.result.status (g.S.Sink.fault_count c.args.output.now) (g.S.Sink.fault_count c.refuse_files.new.output) c.refuse_files.ensures.cause quiet in
     let counted = refused-counted [] c.begin.new.notes.items c.refuse_files.result.faults.items was now refl (c.refuse_files.ensures.notes ∙ c.notes_of.ensures) c.begin.ensures.keeps in
     either-said
-    (without-notes g.L.Lines.tells (texts_of c.args.words.now) (g.C.Source.left c.args.input.now) (g.C.Source.left c.args.input.now) (g.S.Sink.written c.args.output.now) (g.S.Sink.written c.refuse_files.new.output)
+    (without-notes g.L.Lines.tells (map g.U.Unit.unit_state c.args.units.items) (texts_of c.args.words.now) (g.C.Source.left c.args.input.now) (g.C.Source.left c.args.input.now) (g.S.Sink.written c.args.output.now) (g.S.Sink.written c.refuse_files.new.output)
     (beyond was.files lines whole) (beyond now.files lines whole) c.refuse_files.result.faults.items was now counted none)
-    (complete-answer (texts_of c.args.words.now) (g.C.Source.left c.args.input.now) (g.C.Source.left c.args.input.now) (g.S.Sink.written c.args.output.now) (g.S.Sink.written c.refuse_files.new.output)
+    (complete-answer (map g.U.Unit.unit_state c.args.units.items) (texts_of c.args.words.now) (g.C.Source.left c.args.input.now) (g.C.Source.left c.args.input.now) (g.S.Sink.written c.args.output.now) (g.S.Sink.written c.refuse_files.new.output)
     (beyond was.files lines whole) (beyond now.files lines whole) c.refuse_files.result.status c.refuse_files.result.machine c.refuse_files.result.faults.items was now status
     counted none)
     (returns-in-Err-clause-outcome g c source used sink other whole first)
@@ -89,7 +90,7 @@ returns-in-Err-clause-complete g c = λ source used sink other quiet fed none wh
 pub returns-in-Err-clause-memory : goal.returns-in-Err-clause-memory
 returns-in-Err-clause-memory g c = λ source used sink memory whole first.
     let lines = g.L.Lines.state c.args.lines.now in
-    inr (files-memory (texts_of c.args.words.now) c.in-Some.options (g.C.Source.left c.args.input.now) (g.S.Sink.written c.args.output.now) (g.S.Sink.written c.refuse_files.new.output)
+    inr (files-memory (map g.U.Unit.unit_state c.args.units.items) (texts_of c.args.words.now) c.in-Some.options (g.C.Source.left c.args.input.now) (g.S.Sink.written c.args.output.now) (g.S.Sink.written c.refuse_files.new.output)
     (beyond (g.F.Files.state c.args.files.now).files lines whole) (beyond (g.F.Files.state c.begin.new.files).files lines whole) c.in-Err.refusal c.refuse_files.result.status c.refuse_files.result.machine
     (notes_said c.refuse_files.result.faults.items) (sym c.options_of.ensures.options ∙ c.in-Some.is) c.refuse_files.ensures.machine (ap (λ (f : List NamedBytes). beyond f lines whole) (c.begin.ensures.files (named g c.args.words.now c.in-Some.options (sym c.options_of.ensures.options ∙ c.in-Some.is) used.names))) memory
     (c.refuse_files.ensures.told sink)
@@ -102,6 +103,10 @@ returns-in-Err-clause-cause g c =
     (g.C.Source.fault_count c.args.input.now) (sym c.options_of.ensures.options ∙ c.in-Some.is) c.in-Err.ensures.cause c.refuse_files.ensures.cause
 
 -- ---- a session
+
+-- its units stand in bus order
+pub new-requires : goal.new-requires
+new-requires g c = in-bus-order (map g.U.Unit.unit_state c.args.units.items) c.requires
 
 made : (g : Over) (c : goal.After-run_session-arg-in-Ok-begin-2-1 g) → Made (map g.U.Unit.unit_state c.args.units.items) c.in-Some.options c.in-Ok.session
 made g c = record {
@@ -130,14 +135,15 @@ opens-with g c =
     c.in-Ok-begin.ensures.arguments
 
 begun : (g : Over) (c : goal.After-run_session-arg-in-Ok-begin-2-1 g)
-    → Begun (NamesTold g.F.Files.tells c.in-Some.options) (texts_of c.args.words.now) c.in-Some.options c.ready.result c.open_with-opening.result (g.F.Files.state c.args.files.now) (g.F.Files.state c.begin.new.files)
+    → Begun (NamesTold g.F.Files.tells c.in-Some.options) (map g.U.Unit.unit_state c.args.units.items) (texts_of c.args.words.now) c.in-Some.options c.ready.result c.open_with-opening.result (g.F.Files.state c.args.files.now) (g.F.Files.state c.begin.new.files)
 begun g c =
     let words = texts_of c.args.words.now in
+    let units = map g.U.Unit.unit_state c.args.units.items in
     let old = g.F.Files.state c.args.files.now in
     let new = g.F.Files.state c.begin.new.files in
-    let is_begun : CommandState → Type 0 = λ s. Begun (NamesTold g.F.Files.tells c.in-Some.options) words c.in-Some.options s c.open_with-opening.result old new in
+    let is_begun : CommandState → Type 0 = λ s. Begun (NamesTold g.F.Files.tells c.in-Some.options) units words c.in-Some.options s c.open_with-opening.result old new in
     subst is_begun (sym c.ready.ensures)
-    (begun-files (NamesTold g.F.Files.tells c.in-Some.options) words c.in-Some.options (map g.U.Unit.unit_state c.args.units.items) _ c.in-Ok.session (with_workload c.in-Some.options.workload c.session.inside.machine) c.in-Ok-begin.field-0.keys c.open_with-opening.result c.begin.new.notes.items _ old new (made g c) c.session.view_is refl
+    (begun-files (NamesTold g.F.Files.tells c.in-Some.options) units words c.in-Some.options _ c.in-Ok.session (with_workload c.in-Some.options.workload c.session.inside.machine) c.in-Ok-begin.field-0.keys c.open_with-opening.result c.begin.new.notes.items _ old new (made g c) c.session.view_is refl
     (starts-with g c) (opens-with g c) c.begin.ensures.files c.begin.ensures.opened c.begin.ensures.keeps)
 
 -- nothing is attached to its machine
@@ -148,6 +154,15 @@ unattached g c =
     ap (λ (s : CommandState). s.machine.slots) c.ready.ensures
     ∙ ap (λ (m : MachineState). (with_workload workload m).slots) (ap (λ (s : CommandState). s.machine) c.session.view_is ∙ (made g c).machine)
     ∙ new-slots workload units
+
+-- its units are of the kinds that were handed in
+same-kinds : (g : Over) (c : goal.After-run_session-arg-in-Ok-begin-2-1 g) → kinds_of c.ready.result.machine.units ≡ kinds_of (map g.U.Unit.unit_state c.args.units.items)
+same-kinds g c =
+    let units = map g.U.Unit.unit_state c.args.units.items in
+    let workload = c.in-Some.options.workload in
+    ap (λ (s : CommandState). kinds_of s.machine.units) c.ready.ensures
+    ∙ ap (λ (m : MachineState). kinds_of (with_workload workload m).units) (ap (λ (s : CommandState). s.machine) c.session.view_is ∙ (made g c).machine)
+    ∙ new-kinds workload units
 
 -- and its units are the standard ones
 standard-units : (g : Over) (c : goal.After-run_session-arg-in-Ok-begin-2-1 g) → AreStandard c.ready.result.machine.units
@@ -166,7 +181,7 @@ told-input g c tells on =
 
 pub run_session-requires-clause-lines : goal.run_session-requires-clause-lines
 run_session-requires-clause-lines g c =
-    begun-lines (NamesTold g.F.Files.tells c.in-Some.options) (texts_of c.args.words.now) c.in-Some.options _ c.open_with-opening.result (g.F.Files.state c.args.files.now) (g.F.Files.state c.begin.new.files)
+    begun-lines (NamesTold g.F.Files.tells c.in-Some.options) (map g.U.Unit.unit_state c.args.units.items) (texts_of c.args.words.now) c.in-Some.options _ c.open_with-opening.result (g.F.Files.state c.args.files.now) (g.F.Files.state c.begin.new.files)
     (begun g (goal.at.run_session-requires-clause-lines g c).After-run_session-arg-in-Ok-begin-2-1)
 
 pub run_session-requires-clause-bare : goal.run_session-requires-clause-bare
@@ -194,15 +209,15 @@ returns-in-Ok-begin-clause-outcome g c = λ source used sink other whole first.
     let after = (goal.at.returns-in-Ok-begin-clause-outcome g c).After-run_session-arg-in-Ok-begin-2-1 in
     let chosen = sym c.options_of.ensures.options ∙ c.in-Some.is in
     let names = named g c.args.words.now c.in-Some.options chosen used.names in
-    let course = λ (b : Begun (NamesTold g.F.Files.tells c.in-Some.options) (texts_of c.args.words.now) c.in-Some.options c.ready.result c.open_with-opening.result (g.F.Files.state c.args.files.now) (g.F.Files.state c.begin.new.files)).
-    course-told g.F.Files.tells g.L.Lines.tells (NamesTold g.F.Files.tells c.in-Some.options) (texts_of c.args.words.now) c.in-Some.options c.ready.result c.open_with-opening.result
+    let course = λ (b : Begun (NamesTold g.F.Files.tells c.in-Some.options) (map g.U.Unit.unit_state c.args.units.items) (texts_of c.args.words.now) c.in-Some.options c.ready.result c.open_with-opening.result (g.F.Files.state c.args.files.now) (g.F.Files.state c.begin.new.files)).
+    course-told g.F.Files.tells g.L.Lines.tells (NamesTold g.F.Files.tells c.in-Some.options) (map g.U.Unit.unit_state c.args.units.items) (texts_of c.args.words.now) c.in-Some.options c.ready.result c.open_with-opening.result
     (g.F.Files.state c.args.files.now) (g.F.Files.state c.begin.new.files) (g.L.Lines.state c.args.lines.now) (g.C.Source.left c.args.input.now) chosen b names used in
     either-said
-    (says-no-more g.L.Lines.tells (NamesTold g.F.Files.tells c.in-Some.options) (texts_of c.args.words.now) c.in-Some.options _ c.open_with-opening.result (g.F.Files.state c.args.files.now) (g.F.Files.state c.begin.new.files) (g.L.Lines.state c.args.lines.now) whole
+    (says-no-more g.L.Lines.tells (NamesTold g.F.Files.tells c.in-Some.options) (map g.U.Unit.unit_state c.args.units.items) (texts_of c.args.words.now) c.in-Some.options _ c.open_with-opening.result (g.F.Files.state c.args.files.now) (g.F.Files.state c.begin.new.files) (g.L.Lines.state c.args.lines.now) whole
     (beyond (g.F.Files.state c.run_session.new.files).files (g.L.Lines.state c.run_session.new.lines) whole)
     (g.C.Source.left c.args.input.now) (g.C.Source.left c.run_session.new.input) (g.S.Sink.written c.args.output.now) (g.S.Sink.written c.run_session.new.output)
     (notes_said c.run_session.result.faults.items) chosen (begun g after) names)
-    (session-answer (NamesTold g.F.Files.tells c.in-Some.options) (texts_of c.args.words.now) c.in-Some.options _ c.open_with-opening.result (g.F.Files.state c.args.files.now) (g.F.Files.state c.begin.new.files) (g.L.Lines.state c.args.lines.now) whole
+    (session-answer (NamesTold g.F.Files.tells c.in-Some.options) (map g.U.Unit.unit_state c.args.units.items) (texts_of c.args.words.now) c.in-Some.options _ c.open_with-opening.result (g.F.Files.state c.args.files.now) (g.F.Files.state c.begin.new.files) (g.L.Lines.state c.args.lines.now) whole
     (beyond (g.F.Files.state c.run_session.new.files).files (g.L.Lines.state c.run_session.new.lines) whole)
     (g.C.Source.left c.args.input.now) (g.C.Source.left c.run_session.new.input) (g.S.Sink.written c.args.output.now) (g.S.Sink.written c.run_session.new.output) finish watch now c.run_session.result.status c.run_session.result.machine
     (notes_said c.run_session.result.faults.items) (sym c.options_of.ensures.options ∙ c.in-Some.is) (begun g after) names cause.exit status machine other)
@@ -214,15 +229,15 @@ returns-in-Ok-begin-clause-memory g c = λ source used sink memory whole first.
     let after = (goal.at.returns-in-Ok-begin-clause-memory g c).After-run_session-arg-in-Ok-begin-2-1 in
     let chosen = sym c.options_of.ensures.options ∙ c.in-Some.is in
     let names = named g c.args.words.now c.in-Some.options chosen used.names in
-    let course = λ (b : Begun (NamesTold g.F.Files.tells c.in-Some.options) (texts_of c.args.words.now) c.in-Some.options c.ready.result c.open_with-opening.result (g.F.Files.state c.args.files.now) (g.F.Files.state c.begin.new.files)).
-    course-told g.F.Files.tells g.L.Lines.tells (NamesTold g.F.Files.tells c.in-Some.options) (texts_of c.args.words.now) c.in-Some.options c.ready.result c.open_with-opening.result
+    let course = λ (b : Begun (NamesTold g.F.Files.tells c.in-Some.options) (map g.U.Unit.unit_state c.args.units.items) (texts_of c.args.words.now) c.in-Some.options c.ready.result c.open_with-opening.result (g.F.Files.state c.args.files.now) (g.F.Files.state c.begin.new.files)).
+    course-told g.F.Files.tells g.L.Lines.tells (NamesTold g.F.Files.tells c.in-Some.options) (map g.U.Unit.unit_state c.args.units.items) (texts_of c.args.words.now) c.in-Some.options c.ready.result c.open_with-opening.result
     (g.F.Files.state c.args.files.now) (g.F.Files.state c.begin.new.files) (g.L.Lines.state c.args.lines.now) (g.C.Source.left c.args.input.now) chosen b names used in
     either-said
-    (says-no-more g.L.Lines.tells (NamesTold g.F.Files.tells c.in-Some.options) (texts_of c.args.words.now) c.in-Some.options _ c.open_with-opening.result (g.F.Files.state c.args.files.now) (g.F.Files.state c.begin.new.files) (g.L.Lines.state c.args.lines.now) whole
+    (says-no-more g.L.Lines.tells (NamesTold g.F.Files.tells c.in-Some.options) (map g.U.Unit.unit_state c.args.units.items) (texts_of c.args.words.now) c.in-Some.options _ c.open_with-opening.result (g.F.Files.state c.args.files.now) (g.F.Files.state c.begin.new.files) (g.L.Lines.state c.args.lines.now) whole
     (beyond (g.F.Files.state c.run_session.new.files).files (g.L.Lines.state c.run_session.new.lines) whole)
     (g.C.Source.left c.args.input.now) (g.C.Source.left c.run_session.new.input) (g.S.Sink.written c.args.output.now) (g.S.Sink.written c.run_session.new.output)
     (notes_said c.run_session.result.faults.items) chosen (begun g after) names)
-    (memory-answer (NamesTold g.F.Files.tells c.in-Some.options) (texts_of c.args.words.now) c.in-Some.options _ c.open_with-opening.result (g.F.Files.state c.args.files.now) (g.F.Files.state c.begin.new.files) (g.L.Lines.state c.args.lines.now) whole
+    (memory-answer (NamesTold g.F.Files.tells c.in-Some.options) (map g.U.Unit.unit_state c.args.units.items) (texts_of c.args.words.now) c.in-Some.options _ c.open_with-opening.result (g.F.Files.state c.args.files.now) (g.F.Files.state c.begin.new.files) (g.L.Lines.state c.args.lines.now) whole
     (beyond (g.F.Files.state c.run_session.new.files).files (g.L.Lines.state c.run_session.new.lines) whole)
     (g.C.Source.left c.args.input.now) (g.C.Source.left c.run_session.new.input) (g.S.Sink.written c.args.output.now) (g.S.Sink.written c.run_session.new.output) finish watch now c.run_session.result.status c.run_session.result.machine
     (notes_said c.run_session.result.faults.items) (sym c.options_of.ensures.options ∙ c.in-Some.is) (begun g after) names cause.exit status machine memory)
@@ -283,9 +298,9 @@ returns-in-Ok-begin-clause-complete g c = λ source used sink other quiet fed no
     let ended = session-status (texts_of c.args.words.now) c.run_session.result.status (g.S.Sink.fault_count c.args.output.now) (g.S.Sink.fault_count c.run_session.new.output)
     (g.C.Source.fault_count c.args.input.now) (g.C.Source.fault_count c.run_session.new.input) named quiet fed in
     either-said
-    (without-notes g.L.Lines.tells (texts_of c.args.words.now) (g.C.Source.left c.args.input.now) (g.C.Source.left c.run_session.new.input) (g.S.Sink.written c.args.output.now) (g.S.Sink.written c.run_session.new.output)
+    (without-notes g.L.Lines.tells (map g.U.Unit.unit_state c.args.units.items) (texts_of c.args.words.now) (g.C.Source.left c.args.input.now) (g.C.Source.left c.run_session.new.input) (g.S.Sink.written c.args.output.now) (g.S.Sink.written c.run_session.new.output)
     (beyond was.files (g.L.Lines.state c.args.lines.now) whole) (beyond left.files (g.L.Lines.state c.run_session.new.lines) whole) c.run_session.result.faults.items was left (returns-in-Ok-begin-clause-notes g c) none)
-    (complete-answer (texts_of c.args.words.now) (g.C.Source.left c.args.input.now) (g.C.Source.left c.run_session.new.input) (g.S.Sink.written c.args.output.now) (g.S.Sink.written c.run_session.new.output)
+    (complete-answer (map g.U.Unit.unit_state c.args.units.items) (texts_of c.args.words.now) (g.C.Source.left c.args.input.now) (g.C.Source.left c.run_session.new.input) (g.S.Sink.written c.args.output.now) (g.S.Sink.written c.run_session.new.output)
     (beyond was.files (g.L.Lines.state c.args.lines.now) whole) (beyond left.files (g.L.Lines.state c.run_session.new.lines) whole)
     c.run_session.result.status c.run_session.result.machine c.run_session.result.faults.items was left ended (returns-in-Ok-begin-clause-notes g c) none)
     (returns-in-Ok-begin-clause-outcome g c source used sink other whole first)
@@ -293,10 +308,15 @@ returns-in-Ok-begin-clause-complete g c = λ source used sink other quiet fed no
 -- ---- ports
 
 pub returns-in_default-clause-ports : goal.returns-in_default-clause-ports
-returns-in_default-clause-ports g c = lines-unasked c.usage.result.machine (g.L.Lines.state c.args.lines.now) c.usage.ensures.machine
+returns-in_default-clause-ports g c = lines-unasked (map g.U.Unit.unit_state c.args.units.items) c.usage.result.machine (g.L.Lines.state c.args.lines.now) c.usage.ensures.machine
 
 pub returns-in-Err-clause-ports : goal.returns-in-Err-clause-ports
-returns-in-Err-clause-ports g c = lines-unasked c.refuse_files.result.machine (g.L.Lines.state c.args.lines.now) c.refuse_files.ensures.machine
+returns-in-Err-clause-ports g c = lines-unasked (map g.U.Unit.unit_state c.args.units.items) c.refuse_files.result.machine (g.L.Lines.state c.args.lines.now) c.refuse_files.ensures.machine
+
+pub returns-in-Ok-begin-clause-ports : goal.returns-in-Ok-begin-clause-ports
+returns-in-Ok-begin-clause-ports g c =
+    lines-of-kinds c.ready.result.machine.units (map g.U.Unit.unit_state c.args.units.items) c.run_session.result.machine (g.L.Lines.state c.args.lines.now) (g.L.Lines.state c.run_session.new.lines)
+    (same-kinds g (goal.at.returns-in-Ok-begin-clause-ports g c).After-run_session-arg-in-Ok-begin-2-1) c.run_session.ensures.ports
 
 -- ---- a disk that kept its file
 
@@ -403,21 +423,21 @@ pub returns-in_default-clause-resumed : goal.returns-in_default-clause-resumed
 returns-in_default-clause-resumed g c = λ source used sink no_byte other no_read whole first.
     let lines = g.L.Lines.state c.args.lines.now in
     let old = beyond (g.F.Files.state c.args.files.now).files lines whole in
-    or-said (λ out. resumes-saved (texts_of c.args.words.now) (g.C.Source.left c.args.input.now) (g.C.Source.left c.args.input.now) (g.S.Sink.written c.args.output.now) (g.S.Sink.written c.usage.new.output) old old
-    c.usage.result.status c.usage.result.machine (notes_said c.usage.result.faults.items) out no_byte no_read)
+    or-said (λ out. resumes-saved (map g.U.Unit.unit_state c.args.units.items) (texts_of c.args.words.now) (g.C.Source.left c.args.input.now) (g.C.Source.left c.args.input.now) (g.S.Sink.written c.args.output.now) (g.S.Sink.written c.usage.new.output) old old
+    c.usage.result.status c.usage.result.machine (notes_said c.usage.result.faults.items) out c.requires no_byte no_read)
     (returns-in_default-clause-outcome g c source used sink other whole first)
 
 pub returns-in-Err-clause-resumed : goal.returns-in-Err-clause-resumed
 returns-in-Err-clause-resumed g c = λ source used sink no_byte other no_read whole first.
     let lines = g.L.Lines.state c.args.lines.now in
-    or-said (λ out. resumes-saved (texts_of c.args.words.now) (g.C.Source.left c.args.input.now) (g.C.Source.left c.args.input.now) (g.S.Sink.written c.args.output.now) (g.S.Sink.written c.refuse_files.new.output)
+    or-said (λ out. resumes-saved (map g.U.Unit.unit_state c.args.units.items) (texts_of c.args.words.now) (g.C.Source.left c.args.input.now) (g.C.Source.left c.args.input.now) (g.S.Sink.written c.args.output.now) (g.S.Sink.written c.refuse_files.new.output)
     (beyond (g.F.Files.state c.args.files.now).files lines whole) (beyond (g.F.Files.state c.begin.new.files).files lines whole) c.refuse_files.result.status c.refuse_files.result.machine
-    (notes_said c.refuse_files.result.faults.items) out no_byte no_read)
+    (notes_said c.refuse_files.result.faults.items) out c.requires no_byte no_read)
     (returns-in-Err-clause-outcome g c source used sink other whole first)
 
 pub returns-in-Ok-begin-clause-resumed : goal.returns-in-Ok-begin-clause-resumed
 returns-in-Ok-begin-clause-resumed g c = λ source used sink no_byte other no_read whole first.
-    or-said (λ out. resumes-saved (texts_of c.args.words.now) (g.C.Source.left c.args.input.now) (g.C.Source.left c.run_session.new.input) (g.S.Sink.written c.args.output.now) (g.S.Sink.written c.run_session.new.output)
+    or-said (λ out. resumes-saved (map g.U.Unit.unit_state c.args.units.items) (texts_of c.args.words.now) (g.C.Source.left c.args.input.now) (g.C.Source.left c.run_session.new.input) (g.S.Sink.written c.args.output.now) (g.S.Sink.written c.run_session.new.output)
     (beyond (g.F.Files.state c.args.files.now).files (g.L.Lines.state c.args.lines.now) whole) (beyond (g.F.Files.state c.run_session.new.files).files (g.L.Lines.state c.run_session.new.lines) whole)
-    c.run_session.result.status c.run_session.result.machine (notes_said c.run_session.result.faults.items) out no_byte no_read)
+    c.run_session.result.status c.run_session.result.machine (notes_said c.run_session.result.faults.items) out c.requires no_byte no_read)
     (returns-in-Ok-begin-clause-outcome g c source used sink other whole first)

@@ -9,8 +9,8 @@ use Rattle.plain_commands.proofs.show_command.show_unit.Goals as goal
 
 pub returns-then-is_terminal-clause-told : goal.returns-then-is_terminal-clause-told
 returns-then-is_terminal-clause-told g c = λ watch keys files heard.
-    terminal-does c.args.machine.now watch keys files c.args.unit c.show_terminal.result g.S.Sink.tells (output (g.S.Sink.written c.args.out.now) heard) (output (g.S.Sink.written c.show_terminal.new.out) heard)
-    (sym c.is_terminal.ensures ∙ c.if-is_terminal.true) (c.show_terminal.ensures.told watch keys files heard)
+    terminal-does c.args.machine.now watch keys files c.args.unit c.show_ports.result g.S.Sink.tells (output (g.S.Sink.written c.args.out.now) heard) (output (g.S.Sink.written c.show_ports.new.out) heard)
+    (sym c.is_terminal.ensures ∙ c.if-is_terminal.true) (c.show_ports.ensures.told watch keys files heard)
 
 pub returns-then-lacks_unit-clause-told : goal.returns-then-lacks_unit-clause-told
 returns-then-lacks_unit-clause-told g c = λ watch keys files heard.

@@ -1,4 +1,4 @@
-use Rattle.std.proofs.Common.{◌≡◌, option_to_list, sym, ap, ◌∙◌}
+use Rattle.std.proofs.Common.{option_to_list, sym, ap, ◌∙◌}
 use Rattle.scp_examine.specs.Places.{Cell, named_register}
 use Rattle.scp_examine.proofs.ShowLemmas.{numbered-none}
 use Rattle.scp_examine.proofs.UnitLemmas.{unit-listed, unit-unlisted}

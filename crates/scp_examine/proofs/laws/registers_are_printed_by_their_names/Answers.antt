@@ -1,6 +1,5 @@
 use Rattle.std.proofs.Common.{◌≡◌, map, refl}
 use Rattle.unit_trait.specs.declared.kind.Kind.{Kind}
-use Rattle.unit_trait.specs.declared.kind.Kind.TheVariants.{Dsk, Mta, Lpt, Ptr, Ptp, Clk, Tti, Tto, Tti1, Tto1, Qty}
 use Rattle.unit_trait.specs.Multiplexer.{line_numbers}
 use Rattle.unit_trait.proofs.EveryKind.{every-kind}
 use Rattle.operand_forms.specs.declared.listing.Name.TheVariants.{Cpu, Device}

@@ -1,6 +1,5 @@
 use Rattle.std.proofs.Common.{refl, arith, Contains}
 use Rattle.unit_trait.specs.declared.kind.Kind.{Kind}
-use Rattle.unit_trait.specs.declared.kind.Kind.TheVariants.{Dsk, Mta, Lpt, Ptr, Ptp, Clk, Tti, Tto, Tti1, Tto1, Qty}
 use Rattle.unit_trait.proofs.EveryKind.{every-kind}
 use Rattle.scp_examine.specs.Laws.{kinds_by_code}
 use Rattle.scp_examine.proofs.laws.symbolic_devices_are_the_kinds.Goals as goal

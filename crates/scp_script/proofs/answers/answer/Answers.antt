@@ -8,7 +8,7 @@ use Rattle.command_session.specs.Asked.{Asked, asked}
 use Rattle.command_session.proofs.AskedLemmas.{asked-as}
 use Rattle.command_session.proofs.PortLemmas.{left-same}
 use Rattle.session_texts.specs.Scripts.{checked}
-use Rattle.scp_script.specs.Loop.{Answers, AreKeptBy, AsksRestore, IsShort}
+use Rattle.scp_script.specs.Loop.{Answers, AreKeptBy, AsksPorts, IsShort}
 use Rattle.session_texts.specs.Actions.{coming}
 use Rattle.scp_script.specs.Used.{TextTold}
 use Rattle.scp_script.specs.Spending.{EndOf}
@@ -52,7 +52,7 @@ returns-in-Ok-clause-short g c = λ used step whole first own noted.
     (live_in c.obey.new.session (beyond (g.F.Files.state c.obey.new.files).files ports' whole)) own (output (g.S.Sink.written c.args.out.now) ports.sent)
     (output (g.S.Sink.written c.obey.new.out) ports'.sent))
     (sym is) (c.obey.ensures.short (subst (λ (a : Asked). TextTold g.F.Files.tells g.L.Lines.tells session.machine c.args.texts.now.scripts a) is used) step whole
-    (subst (λ (a : Asked). AsksRestore a → IsFirst (record_in ports'.told) whole) is first) own noted)
+    (subst (λ (a : Asked). AsksPorts a → IsFirst (record_in ports'.told) whole) is first) own noted)
 
 pub returns-in-Err-clause-short : goal.returns-in-Err-clause-short
 returns-in-Err-clause-short g c = λ used step whole first own is.

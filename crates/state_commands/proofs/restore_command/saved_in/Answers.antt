@@ -1,4 +1,4 @@
-use Rattle.std.proofs.Common.{◌≡◌, List, ℕ, IfOk, Result, Ok, Err}
+use Rattle.std.proofs.Common.{List, ℕ, IfOk, Result, Ok, Err}
 use Rattle.saved_session.specs.declared.saved.Saved.{Saved}
 use Rattle.state_text.specs.declared.fault.StateFault.{StateFault}
 use Rattle.saved_session.specs.Parts.{state_in}

@@ -1,4 +1,4 @@
-use Rattle.std.proofs.Common.{◌≡◌, ◌∙◌, ap, sym, length, map, ◌&&◌, ◌==◌, Bool}
+use Rattle.std.proofs.Common.{◌∙◌, ap, sym, length, map, ◌&&◌, ◌==◌, Bool}
 use Rattle.saved_session.specs.Parts.{unit_in}
 use Rattle.saved_session.specs.Ranges.{standard_kinds}
 use Rattle.state_transfer.proofs.PutBackMachineLemmas.{lacking-tested}

@@ -1,7 +1,8 @@
 use Rattle.std.proofs.Common.{ℕ, ◌<◌, List, ap, rules}
 use Rattle.telnet_lines.specs.Line.{LineOf}
 use Rattle.nova_machine.specs.Machine.{console_place}
-use Rattle.state_transfer.proofs.RowLemmas.{none-put, console-put}
+use Rattle.terminal_ports.proofs.RowPorts.{none-put}
+use Rattle.state_transfer.proofs.RowLemmas.{console-put}
 use Rattle.state_transfer.proofs.putting_ports.put_console.Goals as goal
 
 pub returns-then-count-ne0 : goal.returns-then-count-ne0

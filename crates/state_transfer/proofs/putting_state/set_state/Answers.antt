@@ -1,9 +1,10 @@
-use Rattle.std.proofs.Common.{rules, ◌≡◌, ◌∙◌, false, ap, sym, subst, Some, Bool, Err, length}
+use Rattle.std.proofs.Common.{rules, ◌≡◌, ◌∙◌, ap, sym, subst, Some, Bool, Err, length}
 use Rattle.std.proofs.lemmas.Result.{err_from_is_err_and}
 use Rattle.unit_files.specs.Attachments.{held_at, no_attachments}
+use Rattle.terminal_ports.specs.Rows.{with_ports}
 use Rattle.nova_machine.specs.Machine.{MachineState}
 use Rattle.nova_machine.specs.Seen.{beside, erased}
-use Rattle.state_transfer.specs.Ports.{assigned, with_ports}
+use Rattle.state_transfer.specs.Ports.{assigned}
 use Rattle.saved_session.specs.Parts.{state_in}
 use Rattle.saved_session.specs.Ranges.{has_multiplexer}
 use Rattle.state_transfer.specs.PutBack.{misses_unit, machine_from}

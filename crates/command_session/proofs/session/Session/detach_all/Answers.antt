@@ -14,7 +14,7 @@ use Rattle.command_session.specs.Doing.{ClosesFiles}
 use Rattle.command_session.proofs.KeptLemmas.{lines-kept}
 use Rattle.command_session.proofs.ClosedLive.{unported-live}
 use Rattle.command_session.proofs.CloseLemmas.{closes-kept, closes-ported}
-use Rattle.command_session.specs.PortAnswers.{ClosesPort}
+use Rattle.command_session.specs.PortAnswers.{ClosesPorts}
 use Rattle.command_session.proofs.session.Session.detach_all.Goals as goal
 
 pub returns-in_err-detach_files-clause-left : goal.returns-in_err-detach_files-clause-left
@@ -35,17 +35,17 @@ pub returns-clause-closes : goal.returns-clause-closes
 returns-clause-closes g c = λ told whole.
     let s = c.args.self.now in
     let old = g.L.Lines.state c.args.lines.now in
-    let new = g.L.Lines.state c.close_terminal.new.lines in
+    let new = g.L.Lines.state c.close_row.new.lines in
     let files = (g.F.Files.state c.args.files.now).files in
     let files' = (g.F.Files.state c.detach_files.new.files).files in
     let step = InStep (attached_files s.machine) files in
     let m = c.self.inside.machine in
-    let after = c.close_terminal.new.machine.lines in
+    let after = c.close_row.new.machine.lines in
     let live = live_in s (beyond files old whole) in
     let same = ap (λ (x : CommandState). x.machine.lines) c.self.view_is ∙ c.detach_files.ensures.terminals in
-    let shown = c.close_terminal.ensures.seen (subst (λ (ls : List (LineOf ℕ)). AreLinesTold g.L.Lines.tells old ls) (sym same) told) in
-    let is = c.close_terminal.ensures.machine ∙ ap (λ (ls : List (LineOf ℕ)). record m { lines = ls }) (sym (ap (λ (x : MachineState). x.lines) c.close_terminal.ensures.machine)) in
-    closes-ported step s.command live (seen (beside c.self.inside.watch c.self.inside.keys files' old) whole m) (seen (beside c.self.inside.watch c.self.inside.keys files' new) whole c.close_terminal.new.machine)
+    let shown = c.close_row.ensures.seen (subst (λ (ls : List (LineOf ℕ)). AreLinesTold g.L.Lines.tells old ls) (sym same) told) in
+    let is = c.close_row.ensures.machine ∙ ap (λ (ls : List (LineOf ℕ)). record m { lines = ls }) (sym (ap (λ (x : MachineState). x.lines) c.close_row.ensures.machine)) in
+    closes-ported step s.command live (seen (beside c.self.inside.watch c.self.inside.keys files' old) whole m) (seen (beside c.self.inside.watch c.self.inside.keys files' new) whole c.close_row.new.machine)
     (notes_said s.notes) (notes_said c.self.inside.notes.items)
     (subst (λ (x : CommandState). ClosesFiles step s.command live (live_in x (beyond files' old whole)) None (notes_said s.notes) (notes_said x.notes)) (sym c.self.view_is) (c.in_ok-detach_files.ensures.closes old whole))
     (ap (λ (x : MachineState). seen (beside c.self.inside.watch c.self.inside.keys files' new) whole x) is
@@ -54,16 +54,16 @@ returns-clause-closes g c = λ told whole.
 pub returns-clause-around : goal.returns-clause-around
 returns-clause-around g c = λ base around.
     subst (λ (slots : List (Option Held)). Around slots base (g.F.Files.state c.detach_files.new.files).opened)
-    (sym (ap (λ (x : CommandState). x.machine.slots) c.self.view_is) ∙ sym (ap (λ (x : MachineState). x.slots) c.close_terminal.ensures.machine))
+    (sym (ap (λ (x : CommandState). x.machine.slots) c.self.view_is) ∙ sym (ap (λ (x : MachineState). x.slots) c.close_row.ensures.machine))
     (c.in_ok-detach_files.ensures.around base around)
 
 pub returns-clause-line : goal.returns-clause-line
 returns-clause-line g c =
     let same = ap (λ (x : CommandState). x.machine.lines) c.self.view_is ∙ c.detach_files.ensures.terminals in
-    subst (λ (ls : List (LineOf ℕ)). ClosesPort (g.L.Lines.state c.args.lines.now) ls (g.L.Lines.state c.close_terminal.new.lines) c.close_terminal.new.machine.lines) same c.close_terminal.ensures.line
+    subst (λ (ls : List (LineOf ℕ)). ClosesPorts (g.L.Lines.state c.args.lines.now) ls (g.L.Lines.state c.close_row.new.lines) c.close_row.new.machine.lines) same c.close_row.ensures.row
 
 pub returns-clause-step : goal.returns-clause-step
 returns-clause-step g c = λ step.
     subst (λ (a : AttachedFiles). InStep a (g.F.Files.state c.detach_files.new.files).files)
-    (sym (ap (λ (x : CommandState). attached_files x.machine) c.self.view_is) ∙ sym (ap attached_files c.close_terminal.ensures.machine))
+    (sym (ap (λ (x : CommandState). attached_files x.machine) c.self.view_is) ∙ sym (ap attached_files c.close_row.ensures.machine))
     (c.in_ok-detach_files.ensures.step step)

@@ -1,4 +1,0 @@
-use Rattle.state_transfer.proofs.putting_ports.+put_row.Given as goal
-
-abbrev pub decreases-put_row : goal.decreases-put_row
-decreases-put_row g l = l.count
