@@ -8,9 +8,10 @@ use std::io::{Read, Write};
 use std::net::{Ipv4Addr, Net, SocketAddr};
 use std::process::Abort;
 
-/// The first of some ports that is free; it is listened on then.
+/// The first of some ports that is free; it is listened on then. They are below those that the system gives to callers,
+/// and one that is not free has raised the count of faults.
 fn free_port<N: Net>(alloc: Global, lines: &mut RealLines<'_, N>) -> Result<u16, &'static str> {
-    match (47_100..47_200u16).find(|port| lines.listen(alloc, *port).is_ok()) {
+    match (20_100..20_200u16).find(|port| lines.listen(alloc, *port).is_ok()) {
         Some(port) => Ok(port),
         None => Err("no port is free"),
     }
@@ -101,8 +102,9 @@ fn go_each_way<N: Net>(
     lines: &mut RealLines<'_, N>,
 ) -> Result<bool, &'static str> {
     let port = free_port(alloc, lines)?;
+    let failed = lines.faults();
     let mut peer = connected(net, port)?;
-    Ok(are_exchanged(lines, port, &mut peer) && lines.faults() == 0)
+    Ok(are_exchanged(lines, port, &mut peer) && lines.faults() == failed)
 }
 
 #[test]
@@ -145,13 +147,14 @@ fn is_let_in_late<N: Net>(
     lines: &mut RealLines<'_, N>,
 ) -> Result<bool, &'static str> {
     let port = free_port(alloc, lines)?;
+    let failed = lines.faults();
     let early = lines.accept(port, 0);
     let mut peer = connected(net, port)?;
     let resting = lines.accept(port, 1);
     if early != Ok(None) || resting != Ok(None) {
         return Err("nobody yet");
     }
-    Ok(are_exchanged(lines, port, &mut peer) && lines.faults() == 0)
+    Ok(are_exchanged(lines, port, &mut peer) && lines.faults() == failed)
 }
 
 // Nobody has called at first, and a call that would wait makes the next ones rest.
@@ -213,17 +216,17 @@ fn takes_nothing_when_full<N: Net>(
     lines: &mut RealLines<'_, N>,
 ) -> Result<bool, &'static str> {
     let port = free_port(alloc, lines)?;
+    let failed = lines.faults();
     let mut peer = connected(net, port)?;
-    is_filled(lines, port, &mut peer)
+    Ok(is_filled(lines, port, &mut peer)? && lines.faults() == failed)
 }
 
-// Each byte that a full socket was said to take comes to the peer, and no more.
+// Each byte that a full socket was said to take comes to the peer, and no more; and that it is full is no fault.
 #[test]
 fn a_full_socket_takes_nothing(rt: HostRuntime) {
     let mut lines = RealLines::new(rt.alloc(), &rt);
     let found = takes_nothing_when_full(&rt, rt.alloc(), &mut lines);
     is_so(&rt, found, "what was taken has come");
-    holds(&rt, lines.faults() == 0, "a full socket is no fault");
 }
 
 /// How many ports there are in a row.
@@ -245,7 +248,7 @@ fn is_row_free<N: Net>(alloc: Global, lines: &mut RealLines<'_, N>, first: u16) 
 /// The first port of a row of which all are listened on then.
 fn free_row<N: Net>(alloc: Global, lines: &mut RealLines<'_, N>) -> Result<u16, &'static str> {
     for turn in 0..100u16 {
-        let first = 40_000 + 70 * turn;
+        let first = 21_000 + 70 * turn;
         if is_row_free(alloc, lines, first) {
             return Ok(first);
         }
@@ -328,13 +331,14 @@ fn each_is_found<N: Net>(
     lines: &mut RealLines<'_, N>,
 ) -> Result<bool, &'static str> {
     let first = free_row(alloc, lines)?;
+    let failed = lines.faults();
     if first_in_row(lines, first, 200).is_some() {
         return Err("nobody has called yet");
     }
     let found = is_let_in_at(net, lines, first, 39)?
         && is_let_in_at(net, lines, first, 63)?
         && is_let_in_at(net, lines, first, 0)?;
-    Ok(found && lines.faults() == 0)
+    Ok(found && lines.faults() == failed)
 }
 
 // Nobody has called any of 64 ports for a while; then somebody calls the 40th, the last and the first.
@@ -371,12 +375,13 @@ fn a_leaver_is_seen<N: Net>(
     lines: &mut RealLines<'_, N>,
 ) -> Result<bool, &'static str> {
     let port = free_port(alloc, lines)?;
+    let failed = lines.faults();
     let first = connected(net, port)?;
     if !ends_when_left(lines, port, first) {
         return Ok(false);
     }
     let mut second = connected(net, port)?;
-    Ok(are_exchanged(lines, port, &mut second) && lines.faults() == 0)
+    Ok(are_exchanged(lines, port, &mut second) && lines.faults() == failed)
 }
 
 // A hang-up is seen though nothing had come before, and the next caller is let in.
@@ -393,11 +398,12 @@ fn is_sent_again<N: Net>(
     lines: &mut RealLines<'_, N>,
 ) -> Result<bool, &'static str> {
     let port = free_port(alloc, lines)?;
+    let failed = lines.faults();
     let mut peer = connected(net, port)?;
     if !is_filled(lines, port, &mut peer)? {
         return Ok(false);
     }
-    Ok(lines.faults() == 0 && takes_again(lines, &mut peer))
+    Ok(lines.faults() == failed && takes_again(lines, &mut peer))
 }
 
 /// Whether the connection of the first number takes a byte once its caller has read what stood there.
@@ -451,9 +457,10 @@ fn all_are_let_in<N: Net>(
     lines: &mut RealLines<'_, N>,
 ) -> Result<bool, &'static str> {
     let first = free_row(alloc, lines)?;
+    let failed = lines.faults();
     let peers = call_all(net, alloc, first)?;
     let count = let_in(lines, first);
-    Ok(count == peers.len() && lines.faults() == 0)
+    Ok(count == peers.len() && lines.faults() == failed)
 }
 
 // There is room for a connection of each port.
