@@ -8,7 +8,13 @@ use std::test::Fail;
 const OPENING: &[u8] = &[255, 251, 1, 255, 251, 3, 255, 251, 0, 255, 253, 0];
 
 // What a record is, and its version; call 1, a connection; call 2, a byte; five calls.
-const RECORD: &[u8] = b"NOVALINE\x00\x01\x00\x00\x00\x00\x00\x00\x00\x01\x01\x00\x00\x00\x00\x00\x00\x00\x00\x00\x00\x00\x02\x02\x00\x01A\x00\x00\x00\x00\x00\x00\x00\x05\x00";
+const RECORD: &[u8] = b"NOVALINE\x00\x01\
+    \x00\x00\x00\x00\x00\x00\x00\x01\x01\x00\x00\x00\x00\
+    \x00\x00\x00\x00\x00\x00\x00\x02\x02\x00\x01A\
+    \x00\x00\x00\x00\x00\x00\x00\x05\x00";
+
+// The record of no call.
+const NO_CALL: &[u8] = b"NOVALINE\x00\x01\x00\x00\x00\x00\x00\x00\x00\x00\x00";
 
 /// Whether the calls of two polls are answered as they were.
 fn are_answered<L: Lines>(alloc: Global, lines: &mut L) -> bool {
@@ -66,7 +72,7 @@ fn takes_no_call(alloc: Global) -> Option<bool> {
     let mut lines = one_caller(alloc)?;
     let mut recorder = Recorder::new(alloc, &mut lines, 84).ok()?;
     let failed = fails(&mut recorder);
-    Some(failed && recorder.text() == b"NOVALINE\x00\x01\x00\x00\x00\x00\x00\x00\x00\x00\x00")
+    Some(failed && recorder.text() == NO_CALL)
 }
 
 fn fault_of(alloc: Global, bytes: &[u8]) -> Option<RecordFault> {
@@ -99,6 +105,11 @@ fn other_bytes_have_their_first_fault(rt: HostRuntime) -> Result<(), Fail> {
     assert!(rt; fault_of(alloc, b"NO!") == Some(RecordFault::NotRecord));
     assert!(rt; fault_of(alloc, b"NOVALINE\x00\x02") == Some(RecordFault::Version(2)));
     assert!(rt; fault_of(alloc, &RECORD[..43]) == Some(RecordFault::Truncated));
-    assert!(rt; fault_of(alloc, b"NOVALINE\x00\x01\x00\x00\x00\x00\x00\x00\x00\x00\x06") == Some(RecordFault::BadEntry(10)));
+    assert!(rt;
+        fault_of(
+            alloc,
+            b"NOVALINE\x00\x01\x00\x00\x00\x00\x00\x00\x00\x00\x06"
+        ) == Some(RecordFault::BadEntry(10))
+    );
     Ok(())
 }

@@ -17,9 +17,9 @@ lent_front r size old front within lent =
     let short : n ≤ length (take size old) = subst (λ (k : ℕ). n ≤ k) lent.0 within in (
       length-append front rest ∙ ap (λ (k : ℕ). k + length rest) lent.0 ∙ sym (length-append (take size old) rest) ∙ ap length (take-append-drop size old),
       drop-append-le n front rest within
-      ∙ ap (λ (l : List ℕ). l ++ rest) lent.1
-      ∙ sym (drop-append-le n (take size old) rest short)
-      ∙ ap (λ (l : List ℕ). drop n l) (take-append-drop size old),
+          ∙ ap (λ (l : List ℕ). l ++ rest) lent.1
+          ∙ sym (drop-append-le n (take size old) rest short)
+          ∙ ap (λ (l : List ℕ). drop n l) (take-append-drop size old),
     )
 
 -- and what came is in that front
