@@ -2,7 +2,7 @@
 use Rattle.std.proofs.Common.{◌≡◌, ℕ, zero, suc, ◌+◌, ◌^◌, ◌≤◌, nat_le, Bool, true, false, List, [], ◌∷◌, length, Option, Some, None, IfSome, refl, arith, if◌then◌else◌}
 use Rattle.std.specs.List.{AllByRecursion}
 use Rattle.std.proofs.lemmas.Bool.{and_parts, leb-true}
-use Rattle.host_lines.specs.Traffic.{Answer as LineAnswer, Peer, Ahead, Script, Answers, Quiet, Failed, replied, begun, listening}
+use Rattle.host_lines.specs.Traffic.{Answer as LineAnswer, Peer, Ahead, Script, Answers, Quiet, Connected, Gave, HungUp, Failed, Took, Over, replied, begun, rest_of, listening}
 use Rattle.telnet_lines.specs.Line.{LineOf, unconnected}
 use Rattle.terminal_ports.specs.Ports.{changed_at}
 use Rattle.terminal_ports.specs.Rows.{changed_row, row_from, with_ports}
@@ -20,8 +20,17 @@ valid-listening (Script t) valid = by (t.fails 0)
     by : (b : Bool) → ValidAhead (if b then replied Failed (Script (begun t)) else replied Quiet (Script (begun t))).ahead
     by true = valid
     by false = valid
-valid-listening (Answers []) valid = valid
-valid-listening (Answers (a ∷ more)) valid = valid.1
+valid-listening (Answers answers) valid = rest answers valid
+  where
+    rest : (l : List LineAnswer) → ValidAhead (Answers l) → ValidAhead (Answers (rest_of l))
+    rest [] all = tt
+    rest (Over ∷ more) all = all
+    rest (Quiet ∷ more) all = all.1
+    rest (Connected c ∷ more) all = all.1
+    rest (Gave bytes ∷ more) all = all.1
+    rest (HungUp ∷ more) all = all.1
+    rest (Failed ∷ more) all = all.1
+    rest (Took n ∷ more) all = all.1
 
 -- so it is where several ports are listened on, up to one that is not to be had
 pub valid-each : (ports : List ℕ) (ahead : Ahead) → ValidAhead ahead → ValidAhead (listening_each ports ahead).ahead

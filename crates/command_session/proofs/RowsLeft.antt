@@ -7,7 +7,7 @@ use Rattle.fault_counts.specs.Faults.{raised}
 use Rattle.host_lines.specs.declared.lines.ListenFault.{ListenFault}
 use Rattle.host_lines.specs.declared.lines.ListenFault.TheVariants as listen
 use Rattle.host_lines.specs.Traffic.{Peer}
-use Rattle.host_lines.specs.Told.{Told, Tells, Records, SameKind, IsFirst, record_in}
+use Rattle.host_lines.specs.Told.{Told, Tells, Records, Plays, SameKind, IsFirst, record_in}
 use Rattle.host_lines.specs.State.{LineState, parties, parties_of, with_one}
 use Rattle.host_lines.specs.LineCalls.{Listens, listen_faults}
 use Rattle.telnet_lines.specs.Line.{LineOf, unconnected}
@@ -94,6 +94,11 @@ same-parties (Tells t) (Tells t') peers same = refl
 same-parties (Records r) (Records r') peers same = refl
 same-parties (Tells t) (Records r) peers same = absurd same
 same-parties (Records r) (Tells t) peers same = absurd same
+same-parties (Plays l) (Plays l') peers same = refl
+same-parties (Tells t) (Plays l) peers same = absurd same
+same-parties (Records r) (Plays l) peers same = absurd same
+same-parties (Plays l) (Tells t) peers same = absurd same
+same-parties (Plays l) (Records r) peers same = absurd same
 
 record FirstOf (tells : Bool) (port : ℕ) (more : List ℕ) (old new : LineState) : Type 0 where
   mid : LineState

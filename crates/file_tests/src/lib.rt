@@ -1,4 +1,4 @@
-//! Tests of files, streams and lines: in memory, those of units, of the system, tapes and terminal lines.
+//! Tests of files, streams and lines: in memory, those of units, of the system, tapes, terminal lines and recorded runs.
 #![tactic(auto)]
 
 #[cfg(test)]
@@ -27,6 +27,8 @@ mod pages;
 mod pieces;
 #[cfg(test)]
 mod piecewise;
+#[cfg(test)]
+mod records;
 #[cfg(test)]
 mod streams;
 #[cfg(test)]

@@ -8,7 +8,7 @@ use Rattle.host_lines.specs.declared.lines.ListenFault.TheVariants as listen
 use Rattle.host_lines.specs.declared.lines.Received.{Received}
 use Rattle.host_lines.specs.declared.lines.Received.TheVariants as received
 use Rattle.host_lines.specs.Traffic.{Peer, Caller, Gone, Answer, Quiet, Connected, Gave, HungUp, Failed, taken_answer, listening}
-use Rattle.host_lines.specs.Told.{Told, Tells, Records, Gives}
+use Rattle.host_lines.specs.Told.{Told, Tells, Records, Plays, Gives}
 use Rattle.host_lines.specs.State.{LineState, parties, caller_of, with_one, without_one}
 
 -- the answer that a call's result stands for
@@ -78,6 +78,7 @@ OthersStay conn old new = (other : ℕ) → other ≢ conn → parties new other
 abbrev pub IsUnused : Told → Bool → Peer → Type 0
 IsUnused (Tells t) given peer = (given ≡ false) × (peer ≡ Gone)
 IsUnused (Records r) given peer = Unit {0}
+IsUnused (Plays l) given peer = Unit {0}
 
 -- a connection that was accepted
 pub record IsFresh (conn : ℕ) (old new : LineState) : Type 0 where

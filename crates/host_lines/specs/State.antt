@@ -1,7 +1,7 @@
 -- What contracts see of lines.
 use Rattle.std.specs.Prelude.{◌≡◌, ℕ, ◌==◌, Bool, true, false, IsTrue, if◌then◌else◌}
 use Rattle.host_lines.specs.Traffic.{Peer, Caller, Gone}
-use Rattle.host_lines.specs.Told.{Told, Tells, Records, Heard}
+use Rattle.host_lines.specs.Told.{Told, Tells, Records, Plays, Heard}
 
 pub record LineState : Type 0 where
   -- known of all lines: which ports are listened on, which connections stand, and how often a call has failed
@@ -15,10 +15,11 @@ pub record LineState : Type 0 where
   pub told : Told
   pub sent : Heard
 
--- who is behind each connection: in a record, a connection's number stands for its caller
+-- who is behind each connection: among answers, a connection's number stands for its caller
 abbrev pub parties_of : Told → (ℕ → Peer) → ℕ → Peer
 parties_of (Tells t) peers = peers
 parties_of (Records r) peers = Caller
+parties_of (Plays l) peers = Caller
 
 abbrev pub parties : LineState → ℕ → Peer
 parties s = parties_of s.told s.peers
@@ -47,3 +48,4 @@ pub record PeersStand (s : LineState) : Type 0 where
 abbrev pub TellsPeers : Told → LineState → Type 0
 TellsPeers (Tells t) s = PeersStand s
 TellsPeers (Records r) s = Unit {0}
+TellsPeers (Plays l) s = Unit {0}

@@ -9,7 +9,7 @@ pub mod lines;
 pub mod mem_lines;
 mod traffic;
 
-pub use laws::{records_answer, told_peers_stand};
+pub use laws::{plays_answer, records_answer, told_peers_stand};
 pub use lines::{ConnId, LineFault, Lines, ListenFault, Received, Sent};
 pub use mem_lines::MemLines;
 pub use std::alloc::AllocError as OutOfMemory;

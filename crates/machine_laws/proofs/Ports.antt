@@ -1,7 +1,7 @@
 -- A poll leaves a line its port, and so does a byte that is put on it.
 use Rattle.std.proofs.Common.{◌≡◌, refl, ◌∙◌, ℕ, List, [], ◌∷◌, ◌++◌, length, Option, Some, None, is_some}
 use Rattle.std.proofs.lemmas.Bool.{cond_both}
-use Rattle.host_lines.specs.Traffic.{Peer, Answer, Quiet, Connected, Gave, HungUp, Failed, Took, Ahead, accepting, receiving, sending}
+use Rattle.host_lines.specs.Traffic.{Peer, Answer, Quiet, Connected, Gave, HungUp, Failed, Took, Over, Ahead, accepting, receiving, sending}
 use Rattle.telnet_lines.specs.Line.{LineOf, is_full, put_on, key_taken}
 use Rattle.telnet_lines.specs.Telnet.{coded}
 use Rattle.telnet_lines.specs.Poll.{Met, met, longest_received, piece_of, after_accept, accepted_on, accepted, after_receive, received_on, received, after_send, sent_on, sent, polled}
@@ -14,6 +14,7 @@ accept-port line Failed = refl
 accept-port line (Gave bytes) = refl
 accept-port line HungUp = refl
 accept-port line (Took n) = refl
+accept-port line Over = refl
 
 accepted-port : (now : ℕ) (m : Met) → (accepted now m).line.port ≡ m.line.port
 unfolding accepted
@@ -31,6 +32,7 @@ receive-port line HungUp = refl
 receive-port line Failed = refl
 receive-port line (Connected c) = refl
 receive-port line (Took n) = refl
+receive-port line Over = refl
 
 received-port : (now : ℕ) (m : Met) → (received now m).line.port ≡ m.line.port
 unfolding received
@@ -48,6 +50,7 @@ send-port line (Took n) = refl
 send-port line HungUp = refl
 send-port line (Gave bytes) = refl
 send-port line (Connected c) = refl
+send-port line Over = refl
 
 sent-port : (m : Met) → (sent m).met.line.port ≡ m.line.port
 unfolding sent

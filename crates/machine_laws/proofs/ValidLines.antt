@@ -6,8 +6,8 @@ use Rattle.std.proofs.lemmas.Bool.{cond_both, leb-false}
 use Rattle.std.proofs.lemmas.List.{length-append}
 use Rattle.host_lines.specs.declared.entry.CallerAct.{CallerAct}
 use Rattle.host_lines.specs.declared.entry.CallerAct.TheVariants.{Connects, Sends, HangsUp}
-use Rattle.host_lines.specs.Traffic.{Happening, Traffic, Peer, Caller, Gone, Answer, Quiet, Connected, Gave, HungUp, Failed, Took, Ahead, Script, Answers, Replied, replied, begun, reply, connects_to, taken_caller, accepting, comes_from, entries_behind, input_answer, input_left, given_at, taken_input, received_from, receiving, taken_answer, sent_to, sending}
-use Rattle.host_lines.specs.Told.{Records, ahead_of}
+use Rattle.host_lines.specs.Traffic.{Happening, Traffic, Peer, Caller, Gone, Answer, Quiet, Connected, Gave, HungUp, Failed, Took, Over, Ahead, Script, Answers, Replied, replied, begun, first_of, rest_of, fits_accept, fits_receive, fits_send, reply, connects_to, taken_caller, accepting, comes_from, entries_behind, input_answer, input_left, given_at, taken_input, received_from, receiving, taken_answer, sent_to, sending}
+use Rattle.host_lines.specs.Told.{Records, single, ahead_of}
 use Rattle.host_lines.specs.State.{LineState, parties}
 use Rattle.telnet_lines.specs.declared.decoder.Rest.{Rest}
 use Rattle.telnet_lines.specs.declared.decoder.Place.{Place}
@@ -171,11 +171,27 @@ record ValidReplied (r : Replied) : Type 0 where
   answer : ValidAnswer r.answer
   ahead : ValidAhead r.ahead
 
-reply-valid : (act : Traffic → Replied) (ahead : Ahead) → ((t : Traffic) → ValidTraffic t → ValidReplied (act t)) → ValidAhead ahead → ValidReplied (reply act ahead)
-reply-valid act (Script t) keeps all =
+rest-valid : (answers : List Answer) → AllByRecursion ValidAnswer answers → AllByRecursion ValidAnswer (rest_of answers)
+rest-valid [] all = tt
+rest-valid (Over ∷ more) all = all
+rest-valid (Quiet ∷ more) all = all.1
+rest-valid (Connected c ∷ more) all = all.1
+rest-valid (Gave bytes ∷ more) all = all.1
+rest-valid (HungUp ∷ more) all = all.1
+rest-valid (Failed ∷ more) all = all.1
+rest-valid (Took n ∷ more) all = all.1
+
+first-valid : (answers : List Answer) → AllByRecursion ValidAnswer answers → ValidAnswer (first_of answers)
+first-valid [] all = tt
+first-valid (a ∷ more) all = all.0
+
+reply-valid : (fits : Answer → Bool) (act : Traffic → Replied) (ahead : Ahead) → ((t : Traffic) → ValidTraffic t → ValidReplied (act t)) → ValidAhead ahead → ValidReplied (reply fits act ahead)
+reply-valid fits act (Script t) keeps all =
     cond_both (t.fails 0) (replied Failed (Script (begun t))) (act (begun t)) ValidReplied (λ _. record { answer = tt; ahead = all }) (λ _. keeps (begun t) all)
-reply-valid act (Answers []) keeps all = record { answer = tt; ahead = tt }
-reply-valid act (Answers (a ∷ more)) keeps all = record { answer = all.0; ahead = all.1 }
+reply-valid fits act (Answers answers) keeps all = record {
+  answer = cond_both (fits (first_of answers)) (first_of answers) Failed ValidAnswer (λ _. first-valid answers all) (λ _. tt);
+  ahead = rest-valid answers all;
+}
 
 caller-valid : (k : Option ℕ) (t : Traffic) → ValidTraffic t → ValidReplied (taken_caller k t)
 caller-valid None t all = record { answer = tt; ahead = all }
@@ -183,7 +199,7 @@ caller-valid (Some k) t all = record { answer = tt; ahead = every-remove HasByte
 
 accepting-valid : (port now : ℕ) (ahead : Ahead) → ValidAhead ahead → ValidReplied (accepting port now ahead)
 accepting-valid port now ahead all =
-    reply-valid (λ t. taken_caller (position (connects_to port now) t.entries) t) ahead (λ t valid. caller-valid (position (connects_to port now) t.entries) t valid) all
+    reply-valid fits_accept (λ t. taken_caller (position (connects_to port now) t.entries) t) ahead (λ t valid. caller-valid (position (connects_to port now) t.entries) t valid) all
 
 left-valid : (size k : ℕ) (e : Happening) (entries : List Happening) → HasBytes e → AllByRecursion HasBytes entries → AllByRecursion HasBytes (entries_behind size k e entries)
 left-valid size k e entries bytes all =
@@ -212,7 +228,7 @@ from-valid Gone now t all = record { answer = tt; ahead = all }
 from-valid (Caller c) now t all = input-valid (position (comes_from c now) t.entries) t all
 
 receiving-valid : (peer : Peer) (now : ℕ) (ahead : Ahead) → ValidAhead ahead → ValidReplied (receiving peer longest_received now ahead)
-receiving-valid peer now ahead all = reply-valid (received_from peer longest_received now) ahead (from-valid peer now) all
+receiving-valid peer now ahead all = reply-valid (fits_receive longest_received) (received_from peer longest_received now) ahead (from-valid peer now) all
 
 took-valid : (size n : ℕ) → ValidAnswer (taken_answer size n)
 took-valid size n = cond_both (n == size) Quiet (Took n) ValidAnswer (λ _. tt) (λ _. tt)
@@ -222,7 +238,7 @@ to-valid Gone size t all = record { answer = took-valid size 0; ahead = all }
 to-valid (Caller c) size t all = record { answer = took-valid size (min size (min t.most t.room)); ahead = all }
 
 sending-valid : (peer : Peer) (size : ℕ) (ahead : Ahead) → ValidAhead ahead → ValidReplied (sending peer size ahead)
-sending-valid peer size ahead all = reply-valid (sent_to peer size) ahead (to-valid peer size) all
+sending-valid peer size ahead all = reply-valid (fits_send size) (sent_to peer size) ahead (to-valid peer size) all
 
 -- ---- a poll
 
@@ -409,4 +425,4 @@ settled-valid s line settled port keys output = record {
 
 -- what is still to come behind answers that were recorded
 pub record-ahead : (answers whole : List Answer) → AllByRecursion ValidAnswer whole → ValidAhead (ahead_of (Records answers) whole)
-record-ahead answers whole all = every-drop ValidAnswer (length answers) whole all
+record-ahead answers whole all = every-drop ValidAnswer (single answers) whole all

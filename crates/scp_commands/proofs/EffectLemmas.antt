@@ -52,7 +52,7 @@ use Rattle.file_commands.specs.AllUnits.{Emptied}
 use Rattle.command_session.specs.declared.next.Next.{Next}
 use Rattle.unit_trait.specs.declared.kind.Kind.{Kind}
 use Rattle.unit_trait.specs.declared.kind.Kind.TheVariants.{Qty}
-use Rattle.host_lines.specs.Traffic.{Answer as LineAnswer, Peer, Replied, Quiet, Connected, Gave, HungUp, Failed, Took}
+use Rattle.host_lines.specs.Traffic.{Answer as LineAnswer, Peer, Replied, Quiet, Connected, Gave, HungUp, Failed, Took, Over}
 use Rattle.telnet_lines.specs.Line.{LineOf}
 use Rattle.command_session.specs.declared.terminal.LineRow.{LineRow}
 use Rattle.command_session.specs.LineEffects.{is_terminal, row_for, has_row, terminal_line, unless_refused, attach_fault, listen_answer, listen_lines, listen_with, attach_port_reply}
@@ -311,6 +311,7 @@ fair-listen_with kind row port given said live = by said.answer
     by (Gave bytes) = record { reads = refl; exit = tt; untouched = λ other h. absurd (cc); all = λ other h none. absurd (cc) }
     by HungUp = record { reads = refl; exit = tt; untouched = λ other h. absurd (cc); all = λ other h none. absurd (cc) }
     by (Took count) = record { reads = refl; exit = tt; untouched = λ other h. absurd (cc); all = λ other h none. absurd (cc) }
+    by Over = record { reads = refl; exit = tt; untouched = λ other h. absurd (cc); all = λ other h none. absurd (cc) }
 
 fair-attach_port : (live : Live) (kind : Kind) (port : ℕ) → Fair false (LeavesTraces (request.AttachPort kind port)) live (attach_port_reply live kind port)
 unfolding attach_port_reply

@@ -3,7 +3,7 @@ use Rattle.std.proofs.Common.{◌≡◌, ◌≢◌, ◌∙◌, ap, sym, refl, tr
 use Rattle.std.proofs.lemmas.Option.{same_Some}
 use Rattle.std.proofs.lemmas.Bool.Decides.{eqb_tells}
 use Rattle.host_lines.specs.Traffic.{Peer, Caller}
-use Rattle.host_lines.specs.Told.{Told, Tells, Records, SameKind}
+use Rattle.host_lines.specs.Told.{Told, Tells, Records, Plays, SameKind}
 use Rattle.host_lines.specs.State.{LineState, parties, parties_of, caller_of}
 use Rattle.telnet_lines.specs.Line.{LineOf, key_taken}
 use Rattle.telnet_lines.specs.Joined.{IsRecorded, HasCaller, KeepsParties}
@@ -11,29 +11,49 @@ use Rattle.telnet_lines.specs.Joined.{IsRecorded, HasCaller, KeepsParties}
 pub same_kind : (t : Told) → SameKind t t
 same_kind (Tells t) = tt
 same_kind (Records r) = tt
+same_kind (Plays l) = tt
 
 kind_through : (a b c : Told) → SameKind a b → SameKind b c → SameKind a c
 kind_through (Tells a) (Tells b) (Tells c) one two = tt
 kind_through (Tells a) (Tells b) (Records c) one two = two
+kind_through (Tells a) (Tells b) (Plays c) one two = two
 kind_through (Tells a) (Records b) c one two = absurd one
+kind_through (Tells a) (Plays b) c one two = absurd one
 kind_through (Records a) (Tells b) c one two = absurd one
+kind_through (Records a) (Plays b) c one two = absurd one
 kind_through (Records a) (Records b) (Tells c) one two = two
+kind_through (Records a) (Records b) (Plays c) one two = two
 kind_through (Records a) (Records b) (Records c) one two = tt
+kind_through (Plays a) (Tells b) c one two = absurd one
+kind_through (Plays a) (Records b) c one two = absurd one
+kind_through (Plays a) (Plays b) (Tells c) one two = two
+kind_through (Plays a) (Plays b) (Records c) one two = two
+kind_through (Plays a) (Plays b) (Plays c) one two = tt
 
 recorded_before : (a b : Told) → SameKind a b → IsRecorded b → IsRecorded a
 recorded_before (Tells a) (Tells b) same is = is
 recorded_before (Tells a) (Records b) same is = same
+recorded_before (Tells a) (Plays b) same is = same
 recorded_before (Records a) b same is = tt
+recorded_before (Plays a) b same is = tt
 
 pub recorded_after : (a b : Told) → SameKind a b → IsRecorded a → IsRecorded b
 recorded_after (Tells a) b same is = absurd is
 recorded_after (Records a) (Tells b) same is = same
 recorded_after (Records a) (Records b) same is = tt
+recorded_after (Records a) (Plays b) same is = absurd same
+recorded_after (Plays a) (Tells b) same is = same
+recorded_after (Plays a) (Records b) same is = absurd same
+recorded_after (Plays a) (Plays b) same is = tt
 
 pub recorded_parties : (a b : Told) (p q : ℕ → Peer) → IsRecorded a → SameKind a b → parties_of b q ≡ parties_of a p
 recorded_parties (Tells a) b p q is same = absurd is
 recorded_parties (Records a) (Tells b) p q is same = absurd same
 recorded_parties (Records a) (Records b) p q is same = refl
+recorded_parties (Records a) (Plays b) p q is same = absurd same
+recorded_parties (Plays a) (Tells b) p q is same = absurd same
+recorded_parties (Plays a) (Records b) p q is same = absurd same
+recorded_parties (Plays a) (Plays b) p q is same = refl
 
 pub is_or_not : (o : Option ℕ) (n : ℕ) → (o ≡ Some n) ⊎ (o ≢ Some n)
 is_or_not None n = inr (λ e. true≢false (ap is_some (sym e)))

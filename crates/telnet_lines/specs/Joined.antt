@@ -1,7 +1,7 @@
 -- A line and the lines of the outside that it is polled on, as contracts see them together.
 use Rattle.std.specs.Prelude.{◌≡◌, ◌≢◌, ◌⊎◌, ◌≤◌, ℕ, IsTrue, List, Option, Some}
 use Rattle.host_lines.specs.Traffic.{Peer, Caller, Answer}
-use Rattle.host_lines.specs.Told.{Told, Tells, Records, SameKind, IsFirst, record_in, ahead_of, heard_more}
+use Rattle.host_lines.specs.Told.{Told, Tells, Records, Plays, SameKind, IsFirst, record_in, ahead_of, heard_more}
 use Rattle.host_lines.specs.State.{LineState, parties, caller_of}
 use Rattle.telnet_lines.specs.Line.{LineOf, renamed}
 use Rattle.telnet_lines.specs.Poll.{Met, met, sent, polled}
@@ -43,6 +43,7 @@ pub record KeepsOthers (old : LineState) (before : LineOf ℕ) (new : LineState)
 abbrev pub IsRecorded : Told → Type 0
 IsRecorded (Tells t) = ⊥
 IsRecorded (Records r) = Unit {0}
+IsRecorded (Plays l) = Unit {0}
 
 -- a caller is behind that connection
 abbrev pub HasCaller : LineState → ℕ → Type 0

@@ -2,7 +2,7 @@
 -- received, a key is taken, and at most one piece is sent, in this order.
 use Rattle.std.specs.Prelude.{ℕ, List, [], ◌∷◌, length, take, drop, Option, Some, None}
 use Rattle.host_lines.specs.declared.lines.Sent.{Sent}
-use Rattle.host_lines.specs.Traffic.{Peer, Caller, Answer, Quiet, Connected, Gave, HungUp, Failed, Took, Ahead, Replied, accepting, receiving, sending, sent_bytes, count_in}
+use Rattle.host_lines.specs.Traffic.{Peer, Caller, Answer, Quiet, Connected, Gave, HungUp, Failed, Took, Over, Ahead, Replied, accepting, receiving, sending, sent_bytes, count_in}
 use Rattle.telnet_lines.specs.Line.{LineOf, unconnected, connected, fed, first_key, key_taken}
 
 -- a line, and what is still to come
@@ -28,6 +28,7 @@ after_accept line Failed = line
 after_accept line (Gave bytes) = line
 after_accept line HungUp = line
 after_accept line (Took n) = line
+after_accept line Over = line
 
 abbrev pub accepted_by : LineOf Peer → Replied → Met
 accepted_by line r = met (after_accept line r.answer) r.ahead
@@ -48,6 +49,7 @@ after_receive line HungUp = unconnected line.port
 after_receive line Failed = unconnected line.port
 after_receive line (Connected c) = line
 after_receive line (Took n) = line
+after_receive line Over = line
 
 abbrev pub received_by : LineOf Peer → Replied → Met
 received_by line r = met (after_receive line r.answer) r.ahead
@@ -71,6 +73,7 @@ after_send line (Took n) = record line { output = drop n line.output }
 after_send line HungUp = line
 after_send line (Gave bytes) = line
 after_send line (Connected c) = line
+after_send line Over = line
 
 -- the bytes that were taken, and what is met behind that
 pub record Sending : Type 0 where

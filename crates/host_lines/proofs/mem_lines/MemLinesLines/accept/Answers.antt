@@ -1,6 +1,6 @@
 use Rattle.std.proofs.Common.{◌≡◌, ◌∙◌, ap, sym, refl, subst, ℕ, ◌&&◌, Bool, true, false, [], ◌∷◌, ◌++◌, remove, get_or, slice_get, Option, is_some}
 use Rattle.host_lines.specs.declared.mem_lines.Given.{Given}
-use Rattle.host_lines.specs.Traffic.{Traffic, Quiet, Connected, Failed, accepting, connects_to, taken_caller, caller_at}
+use Rattle.host_lines.specs.Traffic.{fits_accept, Traffic, Quiet, Connected, Failed, accepting, connects_to, taken_caller, caller_at}
 use Rattle.host_lines.specs.Told.{Tells, Gives}
 use Rattle.host_lines.specs.State.{with_one, caller_of}
 use Rattle.host_lines.specs.MemLines.{MemState, traffic_of, state_of, fails_of, peer_at, stands_at, happens}
@@ -20,7 +20,7 @@ returns-then-begin-clause-told c =
     let t : Traffic = record { entries = c.self.inside.entries.items; most = c.self.inside.most; room = c.self.inside.room; fails = fails_of c.self.inside.calls } in
     let fails = fails_of c.begin.new.self in
     subst (λ (m : MemState). Gives (Tells (traffic_of m)) (Tells (failing_else t fails)) (accepting c.args.port c.args.now) Failed) c.self.view_is
-    (gives_failed t fails (λ (t : Traffic). taken_caller (position (connects_to c.args.port c.args.now) t.entries) t) (sym c.begin.ensures.fails ∙ c.if-begin.true) c.begin.ensures.later)
+    (gives_failed fits_accept t fails (λ (t : Traffic). taken_caller (position (connects_to c.args.port c.args.now) t.entries) t) (sym c.begin.ensures.fails ∙ c.if-begin.true) c.begin.ensures.later)
 
 pub give-requires-clause-connects : goal.give-requires-clause-connects
 give-requires-clause-connects c =
@@ -34,7 +34,7 @@ returns-in-None-clause-told c =
     let t : Traffic = record { entries = c.self.inside.entries.items; most = c.self.inside.most; room = c.self.inside.room; fails = fails_of c.self.inside.calls } in
     let fails = fails_of c.begin.new.self in
     subst (λ (m : MemState). Gives (Tells (traffic_of m)) (Tells (failing_else t fails)) (accepting c.args.port c.args.now) Quiet) c.self.view_is
-    (gives_done t (failing_else t fails) fails (λ (t : Traffic). taken_caller (position (connects_to c.args.port c.args.now) t.entries) t) Quiet (sym c.begin.ensures.fails ∙ c.if-begin.false) c.begin.ensures.later
+    (gives_done fits_accept t (failing_else t fails) fails (λ (t : Traffic). taken_caller (position (connects_to c.args.port c.args.now) t.entries) t) Quiet (sym c.begin.ensures.fails ∙ c.if-begin.false) c.begin.ensures.later
     (ap (λ (o : Option ℕ). taken_caller o (failing_else t fails)) (sym (c.first_connect.ensures ∙ ap (position (connects_to c.args.port c.args.now)) c.as_slice.ensures.value) ∙ c.in-None.is)))
 
 pub returns-in-Some-clause-told : goal.returns-in-Some-clause-told
@@ -52,7 +52,7 @@ returns-in-Some-clause-told c =
     subst (λ (m : MemState). Gives (Tells (traffic_of m)) (Tells (traffic_of c.give.new.self)) call (Connected (caller_of (peer_at (slice_get c.give.new.self.given c.give.result.0))))) c.self.view_is
     (subst (λ (m : MemState). Gives (Tells t) (Tells (traffic_of m)) call (Connected (caller_of (peer_at (slice_get m.given c.give.result.0))))) (sym c.give.ensures.lines)
     (subst (λ (n : ℕ). Gives (Tells t) (Tells t') call (Connected n)) (sym named)
-    (gives_done t t' fails (λ (t : Traffic). taken_caller (position (connects_to c.args.port c.args.now) t.entries) t) (Connected caller) (sym c.begin.ensures.fails ∙ c.if-begin.false) c.begin.ensures.later
+    (gives_done fits_accept t t' fails (λ (t : Traffic). taken_caller (position (connects_to c.args.port c.args.now) t.entries) t) (Connected caller) (sym c.begin.ensures.fails ∙ c.if-begin.false) c.begin.ensures.later
     (ap (λ (o : Option ℕ). taken_caller o (failing_else t fails)) (sym (c.first_connect.ensures ∙ ap (position (connects_to c.args.port c.args.now)) c.as_slice.ensures.value) ∙ c.in-Some.is)))))
 
 pub returns-in-Some-clause-stands : goal.returns-in-Some-clause-stands
