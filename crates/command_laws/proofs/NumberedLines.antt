@@ -20,7 +20,7 @@ use Rattle.state_transfer.specs.Ports.{how_many, is_line, multiplexer_lines, ass
 use Rattle.state_transfer.specs.PutBack.{lines_from}
 use Rattle.state_laws.proofs.LinesBack.{row-behind, how-many, free_lines}
 use Rattle.command_session.proofs.PortLemmas.{closed-free, apart-free}
-use Rattle.command_session.specs.LineEffects.{row_for, every_row, has_row, ported, closed, unported}
+use Rattle.command_session.specs.LineEffects.{row_for, every_row, console_row, has_row, ported, closed, unported}
 use Rattle.state_commands.proofs.PortRows.{all-given}
 
 -- ---- lines with the same ports
@@ -222,6 +222,13 @@ pub numbered-unported : (kind : Kind) (units : List UnitState) (lines : List (Li
 numbered-unported Qty units lines many are =
     subst AreNumbered (sym (changes-past multiplexer_lines 0 closed lines)) (rises None _ (all-closed multiplexer_lines (drop 2 lines) (few-behind units lines many)))
 numbered-unported kind units lines many are = subst AreNumbered (sym (drop-changes 1 1 2 closed lines (omega arith))) are
+
+-- the console line stands before all of them
+pub numbered-silent : (lines : List (LineOf Peer)) → AreNumbered (drop (line_place 1) lines) → AreNumbered (drop (line_place 1) (unported console_row lines))
+numbered-silent lines are = subst AreNumbered (sym (drop-changes 1 0 2 closed lines (omega arith))) are
+
+pub numbered-console : (port : ℕ) (lines : List (LineOf Peer)) → AreNumbered (drop (line_place 1) lines) → AreNumbered (drop (line_place 1) (ported console_row port lines))
+numbered-console port lines are = subst AreNumbered (sym (drop-row 1 0 port 2 lines (omega arith))) are
 
 -- all terminal lines
 pub numbered-closed : (units : List UnitState) (lines : List (LineOf Peer)) → length lines ≡ suc (line_count units) → AreNumbered (drop (line_place 1) (unported every_row lines))

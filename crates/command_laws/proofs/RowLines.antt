@@ -10,7 +10,7 @@ use Rattle.terminal_ports.specs.Listening.{unless_failed, listening_each}
 use Rattle.terminal_ports.proofs.Rows.{changed-length, row-length}
 use Rattle.nova_machine.specs.Valid.{IsPort, ValidLine, ValidAhead}
 use Rattle.command_session.specs.declared.terminal.LineRow.{LineRow}
-use Rattle.command_session.specs.LineEffects.{first_place, ported, closed, closed_by, hung, hung_by, hung_up, unported, terminal_place, are_ports}
+use Rattle.command_session.specs.LineEffects.{ported, closed, closed_by, hung, hung_by, hung_up, unported, terminal_place, are_ports}
 
 -- ---- what is still to come on lines
 
@@ -79,10 +79,10 @@ valid-row zero place change lines changes all = all
 valid-row (suc count) place change lines changes all = valid-row count (suc place) change (changed_at place change lines) changes (valid-changed place change lines changes all)
 
 pub valid-unported : (row : LineRow) (lines : List (LineOf Peer)) → AllByRecursion ValidLine lines → AllByRecursion ValidLine (unported row lines)
-valid-unported row lines all = valid-row row.count (first_place row) closed lines (λ line valid. closed-valid line.port line valid) all
+valid-unported row lines all = valid-row row.count row.place closed lines (λ line valid. closed-valid line.port line valid) all
 
 pub many-unported : (row : LineRow) (lines : List (LineOf Peer)) → length (unported row lines) ≡ length lines
-many-unported row lines = row-length row.count (first_place row) closed lines
+many-unported row lines = row-length row.count row.place closed lines
 
 valid-given : (count place port : ℕ) (lines : List (LineOf Peer)) → 1 ≤ port → port + count ≤ 2 ^ 16 → AllByRecursion ValidLine lines
     → AllByRecursion ValidLine (with_ports (row_from count place port) lines)
@@ -99,4 +99,4 @@ in-range port count is =
     (leb-true 1 port both.0, leb-true (port + count) 65536 both.1)
 
 pub valid-ported : (row : LineRow) (port : ℕ) (lines : List (LineOf Peer)) → are_ports port row.count ≡ true → AllByRecursion ValidLine lines → AllByRecursion ValidLine (ported row port lines)
-valid-ported row port lines is all = let range = in-range port row.count is in valid-given row.count (first_place row) port lines range.0 range.1 all
+valid-ported row port lines is all = let range = in-range port row.count is in valid-given row.count row.place port lines range.0 range.1 all

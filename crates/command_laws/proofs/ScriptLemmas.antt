@@ -28,7 +28,8 @@ use Rattle.command_session.specs.declared.next.Next.TheVariants.{Go, Do, Exit}
 use Rattle.command_session.specs.Live.{Live}
 use Rattle.command_session.specs.Reply.{Answer, Reply}
 use Rattle.command_session.specs.RunEffects.{run_answer, run_failure, ran, address_fits, started, run_from, stepped, step_of}
-use Rattle.command_session.specs.LineEffects.{row_for, terminal_line, unless_refused, attach_fault, listen_answer, attach_port_reply, with_port, disconnect_reply}
+use Rattle.command_session.specs.declared.terminal.LineRow.{LineRow}
+use Rattle.command_session.specs.LineEffects.{row_for, console_row, terminal_line, unless_refused, attach_fault, listen_answer, attach_row, attach_port_reply, detach_fault, set_console_reply, with_port, disconnect_reply}
 use Rattle.command_session.specs.FileEffects.{lacks_unit, mode_of, attach_answer, attach_reply}
 use Rattle.command_session.specs.FileEffects.{detach_all_reply, emptied_all, kept_answer}
 use Rattle.command_session.specs.ExitEffects.{exit_reply}
@@ -90,11 +91,18 @@ pub unless-none : (fault : Option CommandFault) (reply : Reply) (live : Live) �
 unless-none None reply live none = none
 unless-none (Some fault) reply live none = tt
 
+attach_row-none : (live : Live) (row : LineRow) (port : ℕ) → NoScript (attach_row row port live).answer
+attach_row-none live row port =
+    unless-none (attach_fault row port live.lines) _ live (listen_answer-none (listening_each (rising row.count port) live.ahead).answer)
+
 pub attach_port-none : (live : Live) (kind : Kind) (port : ℕ) → NoScript (attach_port_reply live kind port).answer
 unfolding attach_port_reply
-attach_port-none live kind port =
-    let row = row_for kind in
-    unless-none (attach_fault row port live.lines) _ live (listen_answer-none (listening_each (rising row.count port) live.ahead).answer)
+attach_port-none live kind port = attach_row-none live (row_for kind) port
+
+pub set_console-none : (live : Live) (port : Option ℕ) → NoScript (set_console_reply live port).answer
+unfolding set_console_reply
+set_console-none live (Some port) = attach_row-none live console_row port
+set_console-none live None = unless-none (detach_fault console_row live.lines) _ live tt
 
 with_port-none : (line : Option (LineOf Peer)) (reply : Reply) (live : Live) → NoScript reply.answer → NoScript (with_port line reply live).answer
 with_port-none None reply live none = tt

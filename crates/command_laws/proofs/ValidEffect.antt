@@ -1,5 +1,5 @@
 -- Every command keeps what every state is, and what the disk holds of its file.
-use Rattle.std.proofs.Common.{◌≡◌, ◌≢◌, inl, inr, ℕ, zero, suc, ◌+◌, ◌^◌, ◌<◌, ◌≤◌, ◌==◌, ◌&&◌, not, nat_le, nat_lt, min, unwrap_or, Bool, true, false, List, [], ◌∷◌, length, drop, get_or, map, Option, Some, None, option_map, Result, Ok, Err, if◌then◌else◌, refl, sym, ap, subst, ◌∙◌, arith, is_none}
+use Rattle.std.proofs.Common.{◌≡◌, ◌≢◌, inl, inr, ℕ, zero, suc, ◌+◌, ◌^◌, ◌<◌, ◌≤◌, ◌==◌, ◌&&◌, not, nat_le, nat_lt, min, unwrap_or, Bool, true, false, List, [], ◌∷◌, codes, length, drop, get_or, map, Option, Some, None, option_map, Result, Ok, Err, if◌then◌else◌, refl, sym, ap, subst, ◌∙◌, arith, is_none}
 use Rattle.std.proofs.lemmas.Bool.{and_parts, leb-true, ltb-true}
 use Rattle.std.proofs.lemmas.List.{length-map, length-replicate}
 use Rattle.observations.specs.Observations.{Prints, map_made}
@@ -74,7 +74,7 @@ use Rattle.command_session.specs.FileEffects.{filed_in, emptied_all, left_by, un
 use Rattle.host_lines.specs.Traffic.{Answer as LineAnswer, Peer, Replied, Ahead, Failed}
 use Rattle.telnet_lines.specs.Line.{LineOf, unconnected}
 use Rattle.command_session.specs.declared.terminal.LineRow.{LineRow}
-use Rattle.command_session.specs.LineEffects.{is_terminal, row_for, every_row, first_place as row_place, has_row, are_ports, terminal_place, terminal_line, ported, unported, hung, hung_up, unless_refused, attach_fault, listen_answer, listen_lines, listen_with, attach_port_reply}
+use Rattle.command_session.specs.LineEffects.{is_terminal, row_for, every_row, console_row, has_row, are_ports, terminal_place, terminal_line, console_line, ported, unported, hung, hung_up, unless_refused, attach_fault, listen_answer, listen_lines, listen_with, attach_row, attach_port_reply}
 use Rattle.command_session.proofs.PortLemmas.{apart-unported, apart-hung, apart-ported}
 use Rattle.terminal_ports.specs.Ports.{HavePortsApart, AreNumbered}
 use Rattle.terminal_ports.specs.Rows.{row_from, are_taken}
@@ -82,10 +82,10 @@ use Rattle.terminal_ports.specs.Listening.{rising, listening_each}
 use Rattle.terminal_ports.proofs.RowPorts.{given-length}
 use Rattle.terminal_ports.proofs.PortsApart.{apart-by}
 use Rattle.command_laws.proofs.OwnLines.{same-many, standard-by, standard-saved}
-use Rattle.command_laws.proofs.NumberedLines.{numbered-by, numbered-changed, numbered-unported, numbered-closed, numbered-ported, numbered-back, apart-back, many-back}
+use Rattle.command_laws.proofs.NumberedLines.{numbered-by, numbered-changed, numbered-unported, numbered-silent, numbered-console, numbered-closed, numbered-ported, numbered-back, apart-back, many-back}
 use Rattle.command_laws.proofs.RowLines.{valid-each, valid-hung, many-hung, valid-unported, many-unported, valid-ported}
 use Rattle.state_laws.proofs.PutBackRange.{kinds-put}
-use Rattle.command_session.specs.LineEffects.{detach_fault, with_port, detach_port_reply, disconnect_reply, show_line, show_ports}
+use Rattle.command_session.specs.LineEffects.{detach_fault, detach_row, with_port, detach_port_reply, disconnect_reply, set_console_reply, show_line, show_ports}
 use Rattle.plain_commands.specs.ShowEffects.{show_reply}
 use Rattle.command_session.specs.ExitEffects.{exit_reply}
 use Rattle.plain_commands.specs.SetEffects.{sized, ruled, set_size_reply, set_autobit_reply}
@@ -479,13 +479,11 @@ lines-count : (live : Live) → ValidLive live → length live.lines ≡ suc (li
 lines-count live is = is.count ∙ ap suc (length-replicate (line_count live.machine.units) (unconnected {P = ℕ} None))
 
 -- ports are listened on, or one was not to be had
-stands-listen_with : (said : Replied) (kind : Kind) (port : ℕ) (live : Live) → attach_fault (row_for kind) port live.lines ≡ None → ValidAhead said.ahead → ValidLive live
-    → Stands live (listen_with said (row_for kind) port live)
-stands-listen_with said kind port live none valid is = by said.answer
+stands-listen_with : (said : Replied) (row : LineRow) (port : ℕ) (live : Live) → attach_fault row port live.lines ≡ None
+    → (has_row row live.lines ≡ true → AreNumbered (drop (line_place 1) (ported row port live.lines))) → ValidAhead said.ahead → ValidLive live
+    → Stands live (listen_with said row port live)
+stands-listen_with said row port live none numbered valid is = by said.answer
   where
-    row : LineRow
-    row = row_for kind
-
     asks : (has_row row live.lines ≡ true) × (are_ports port row.count ≡ true) × (are_taken row.count port live.lines ≡ false)
     asks = attach-asks row port live.lines none
 
@@ -502,9 +500,8 @@ stands-listen_with said kind port live none valid is = by said.answer
     by other = record {
       valid = record {
         after = lined-live (record live { ahead = said.ahead }) (ported row port live.lines) (ahead-live live said.ahead is valid)
-            (valid-ported row port live.lines asks.1 is.valid.lines) (given-length (row_from row.count (row_place row) port) live.lines)
-            (apart-ported row port live.lines asks.0 asks.1 asks.2 is.ports)
-            (numbered-ported kind port live.machine.units live.lines (lines-count live is) asks.0 is.numbered);
+            (valid-ported row port live.lines asks.1 is.valid.lines) (given-length (row_from row.count row.place port) live.lines)
+            (apart-ported row port live.lines asks.0 asks.1 asks.2 is.ports) (numbered asks.0);
         made = λ at h. absurd h;
         script = tt;
       };
@@ -512,16 +509,21 @@ stands-listen_with said kind port live none valid is = by said.answer
       stays = copy-same live (record live { lines = ported row port live.lines; ahead = said.ahead }) refl refl;
     }
 
-stands-attach_port : (live : Live) (kind : Kind) (port : ℕ) → ValidLive live → Stands live (attach_port_reply live kind port)
-unfolding attach_port_reply
-stands-attach_port live kind port is = by (attach_fault (row_for kind) port live.lines) refl
+stands-attach_row : (live : Live) (row : LineRow) (port : ℕ) → (has_row row live.lines ≡ true → AreNumbered (drop (line_place 1) (ported row port live.lines))) → ValidLive live
+    → Stands live (attach_row row port live)
+stands-attach_row live row port numbered is = by (attach_fault row port live.lines) refl
   where
     said : Replied
-    said = listening_each (rising (row_for kind).count port) live.ahead
+    said = listening_each (rising row.count port) live.ahead
 
-    by : (fault : Option CommandFault) → attach_fault (row_for kind) port live.lines ≡ fault → Stands live (unless_refused fault (listen_with said (row_for kind) port live) live)
+    by : (fault : Option CommandFault) → attach_fault row port live.lines ≡ fault → Stands live (unless_refused fault (listen_with said row port live) live)
     by (Some fault) e = stands-refused fault live is
-    by None e = stands-listen_with said kind port live e (valid-each (rising (row_for kind).count port) live.ahead is.valid.ahead) is
+    by None e = stands-listen_with said row port live e numbered (valid-each (rising row.count port) live.ahead is.valid.ahead) is
+
+stands-attach_port : (live : Live) (kind : Kind) (port : ℕ) → ValidLive live → Stands live (attach_port_reply live kind port)
+unfolding attach_port_reply
+stands-attach_port live kind port is =
+    stands-attach_row live (row_for kind) port (λ there. numbered-ported kind port live.machine.units live.lines (lines-count live is) there is.numbered) is
 
 stands-with_port : (line : Option (LineOf Peer)) (lines : List (LineOf Peer)) (live : Live) → AllByRecursion ValidLine lines → length lines ≡ length live.lines → HavePortsApart lines
     → AreNumbered (drop (line_place 1) lines) → ValidLive live → Stands live (with_port line (goes (record live { lines = lines })) live)
@@ -530,19 +532,25 @@ stands-with_port (Some line) lines live all count ports numbered is =
     stands-if (is_none line.port) live _ _ (λ _. stands-refused _ live is)
     (λ _. stands-goes live (record live { lines = lines }) (lined-live live lines is all count ports numbered) refl refl)
 
-stands-detach_port : (live : Live) (kind : Kind) → ValidLive live → Stands live (detach_port_reply live kind)
-unfolding detach_port_reply
-stands-detach_port live kind is = by (detach_fault (row_for kind) live.lines)
+stands-detach_row : (live : Live) (row : LineRow) → AreNumbered (drop (line_place 1) (unported row live.lines)) → ValidLive live → Stands live (detach_row row live)
+stands-detach_row live row numbered is = by (detach_fault row live.lines)
   where
-    row : LineRow
-    row = row_for kind
-
     by : (fault : Option CommandFault) → Stands live (unless_refused fault (goes (record live { lines = unported row live.lines })) live)
     by (Some fault) = stands-refused fault live is
     by None =
         stands-goes live (record live { lines = unported row live.lines })
-        (lined-live live (unported row live.lines) is (valid-unported row live.lines is.valid.lines) (many-unported row live.lines) (apart-unported row live.lines is.ports)
-        (numbered-unported kind live.machine.units live.lines (lines-count live is) is.numbered)) refl refl
+        (lined-live live (unported row live.lines) is (valid-unported row live.lines is.valid.lines) (many-unported row live.lines) (apart-unported row live.lines is.ports) numbered)
+        refl refl
+
+stands-detach_port : (live : Live) (kind : Kind) → ValidLive live → Stands live (detach_port_reply live kind)
+unfolding detach_port_reply
+stands-detach_port live kind is =
+    stands-detach_row live (row_for kind) (numbered-unported kind live.machine.units live.lines (lines-count live is) is.numbered) is
+
+stands-set_console : (live : Live) (port : Option ℕ) → ValidLive live → Stands live (set_console_reply live port)
+unfolding set_console_reply
+stands-set_console live (Some port) is = stands-attach_row live console_row port (λ there. numbered-console port live.lines is.numbered) is
+stands-set_console live None is = stands-detach_row live console_row (numbered-silent live.lines is.numbered) is
 
 stands-disconnect : (live : Live) → ValidLive live → Stands live (disconnect_reply live)
 unfolding disconnect_reply
@@ -668,6 +676,10 @@ unfolding set_autobit_reply
 stands-set_autobit live before is =
     stands-goes live _ (machine-live live (ruled live.machine before) is (ruled-valid live.machine before is.valid.machine) (record { time = refl; taken = refl; kinds = refl; slots = refl; disk = refl; lines = refl }) refl) refl refl
 
+stands-line : (name : List ℕ) (line : Option (LineOf Peer)) (live : Live) → ValidLive live → Stands live (show_line name line live)
+stands-line name None live is = stands-refused _ live is
+stands-line name (Some line) live is = stands-says _ live is
+
 stands-show : (live : Live) (subject : Shown) → ValidLive live → Stands live (show_reply live subject)
 unfolding show_reply
 stands-show live shown.Time is = stands-says _ live is
@@ -677,17 +689,14 @@ stands-show live shown.Break is = stands-says _ live is
 stands-show live shown.Expect is = stands-says _ live is
 stands-show live shown.Send is = stands-says _ live is
 stands-show live shown.Version is = stands-says _ live is
+stands-show live shown.Console is = stands-line (codes "CONSOLE") (console_line live.lines) live is
 stands-show live (shown.Unit unit) is =
     stands-if (is_terminal unit) live _ _ (λ _. by-ports unit.kind)
     (λ _. stands-if (lacks_unit live.machine unit) live _ _ (λ _. stands-refused _ live is) (λ _. stands-says _ live is))
   where
-    by-line : (line : Option (LineOf Peer)) → Stands live (show_line line live)
-    by-line None = stands-refused _ live is
-    by-line (Some line) = stands-says _ live is
-
     by-ports : (kind : Kind) → Stands live (show_ports kind live)
     by-ports Qty = stands-if (has_row (row_for Qty) live.lines) live _ _ (λ _. stands-says _ live is) (λ _. stands-refused _ live is)
-    by-ports kind = by-line (terminal_line live.lines)
+    by-ports kind = stands-line (codes "TTI1") (terminal_line live.lines) live is
 
 stands-echo : (live : Live) (text : List ℕ) → ValidLive live → Stands live (echo_reply live text)
 unfolding echo_reply
@@ -937,6 +946,7 @@ stands-effect limit notes live (request.Detach unit) is kept bytes = stands-deta
 stands-effect limit notes live (request.SetSize k) is kept bytes = stands-set_size live k is
 stands-effect limit notes live (request.SetAutobit before) is kept bytes = stands-set_autobit live before is
 stands-effect limit notes live (request.Disconnect kind) is kept bytes = stands-disconnect live is
+stands-effect limit notes live (request.SetConsole port) is kept bytes = stands-set_console live port is
 stands-effect limit notes live (request.Show subject) is kept bytes = stands-show live subject is
 stands-effect limit notes live (request.Do echo strict name arguments) is kept bytes = stands-do notes live echo strict name is
 stands-effect limit notes live (request.Goto label) is kept bytes = stands-goto live is

@@ -1,26 +1,30 @@
 -- Commands that listen on no port.
-use Rattle.std.proofs.Common.{◌≢◌, inl, ◌<◌, Bool, Err, refl, subst, arith}
+use Rattle.std.proofs.Common.{◌≢◌, inl, ℕ, ◌<◌, Bool, Some, None, Err, refl, subst, arith}
 use Rattle.unit_trait.specs.declared.kind.Kind.{Kind}
 use Rattle.unit_trait.specs.declared.kind.Kind.TheVariants.{Qty}
 use Rattle.host_lines.specs.declared.lines.ListenFault.TheVariants as listen
 use Rattle.terminal_ports.proofs.Row.{first-refused}
-use Rattle.scp_parser.specs.Command.{Request, AttachPort, Restore}
+use Rattle.scp_parser.specs.Command.{Request, AttachPort, SetConsole, Restore}
 use Rattle.command_session.specs.declared.fault.CommandFault.TheVariants.{OutOfMemory, PortFailed}
 use Rattle.command_session.specs.Reply.{Answer}
 use Rattle.command_session.specs.Doing.{IsOwn, IsPlain, IsShown, IsRunAnswer}
 use Rattle.host_lines.specs.State.{LineState}
-use Rattle.command_session.specs.LineEffects.{row_for}
-use Rattle.command_session.specs.LinesLeft.{ListenCause}
+use Rattle.command_session.specs.declared.terminal.LineRow.{LineRow}
+use Rattle.command_session.specs.LineEffects.{row_for, console_row}
+use Rattle.command_session.specs.LinesLeft.{RowCause, ListenCause}
 
 -- an answer that speaks of no port, of a command that listens on none
 abbrev pub IsNoListener : Request → Type 0
 IsNoListener (AttachPort kind port) = ⊥
+IsNoListener (SetConsole (Some port)) = ⊥
 IsNoListener (Restore force name) = ⊥
 IsNoListener request = Unit {0}
 
 pub unlistening : (tells : Bool) (request : Request) (answer : Answer) (old new : LineState) → IsNoListener request → answer ≢ Err PortFailed
     → ListenCause tells request answer old new
 unlistening tells (AttachPort kind port) answer old new other none = absurd other
+unlistening tells (SetConsole (Some port)) answer old new other none = absurd other
+unlistening tells (SetConsole None) answer old new other none = none
 unlistening tells (Restore force name) answer old new other none = absurd other
 unlistening tells request answer old new other none = none
 
@@ -30,12 +34,17 @@ some-lines Qty = omega arith
 some-lines kind = omega arith
 
 -- nothing was asked of the outside
-pub unlistened : (tells : Bool) (request : Request) (answer : Answer) (s : LineState) → answer ≢ Err PortFailed → ListenCause tells request answer s s
-unlistened tells (AttachPort kind port) (Err PortFailed) s none = absurd (none refl)
-unlistened tells (AttachPort kind port) (Err OutOfMemory) s none =
-    first-refused tells (row_for kind).count port (some-lines kind) listen.OutOfMemory s s
+unlistened-row : (tells : Bool) (row : LineRow) (port : ℕ) (answer : Answer) (s : LineState) → 0 < row.count → answer ≢ Err PortFailed → RowCause tells row port answer s s
+unlistened-row tells row port (Err PortFailed) s some none = absurd (none refl)
+unlistened-row tells row port (Err OutOfMemory) s some none =
+    first-refused tells row.count port some listen.OutOfMemory s s
     (record { told = λ _. refl; listens = refl; stands = refl; behind = refl; sent = refl; counted = refl })
-unlistened tells (AttachPort kind port) answer s none = tt
+unlistened-row tells row port answer s some none = tt
+
+pub unlistened : (tells : Bool) (request : Request) (answer : Answer) (s : LineState) → answer ≢ Err PortFailed → ListenCause tells request answer s s
+unlistened tells (AttachPort kind port) answer s none = unlistened-row tells (row_for kind) port answer s (some-lines kind) none
+unlistened tells (SetConsole (Some port)) answer s none = unlistened-row tells console_row port answer s (omega arith) none
+unlistened tells (SetConsole None) answer s none = none
 unlistened tells (Restore force name) (Err PortFailed) s none = absurd (none refl)
 unlistened tells (Restore force name) (Err OutOfMemory) s none = inl refl
 unlistened tells (Restore force name) answer s none = tt

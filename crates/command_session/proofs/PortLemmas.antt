@@ -20,7 +20,7 @@ use Rattle.terminal_ports.proofs.RowPorts.{apart-row}
 use Rattle.nova_machine.specs.LineChanges.{ports_of, HaveNoPort, HasConnection, AreLinesTold, LinesGoOn}
 use Rattle.nova_machine.proofs.LineSteps.{lines-stay, first-same, first-through, hears-same, hears-equal, hears-then, no-ports-same}
 use Rattle.command_session.specs.declared.terminal.LineRow.{LineRow}
-use Rattle.command_session.specs.LineEffects.{has_row, first_place, ported, are_ports, closed, closed_by, hung, hung_by, unported, hung_up}
+use Rattle.command_session.specs.LineEffects.{has_row, ported, are_ports, closed, closed_by, hung, hung_by, unported, hung_up}
 use Rattle.command_session.specs.LinesLeft.{HasPort, AreListened, LinesLeft, GivesUp, SeenAs, without_any}
 
 -- ---- ports
@@ -139,7 +139,7 @@ apart-closed (suc count) place lines own =
     (apart-changed place closed lines own (λ line at. none-given place lines (closed line) (closed-free line.port line refl) own))
 
 pub apart-unported : {P : Type 0} (row : LineRow) (lines : List (LineOf P)) → HavePortsApart lines → HavePortsApart (unported row lines)
-apart-unported row lines own = apart-closed row.count (first_place row) lines own
+apart-unported row lines own = apart-closed row.count row.place lines own
 
 pub apart-hung : {P : Type 0} (place : ℕ) (lines : List (LineOf P)) → HavePortsApart lines → HavePortsApart (hung_up place lines)
 apart-hung place lines own =
@@ -149,7 +149,7 @@ apart-hung place lines own =
 pub apart-ported : {P : Type 0} (row : LineRow) (port : ℕ) (lines : List (LineOf P)) → has_row row lines ≡ true → are_ports port row.count ≡ true
     → are_taken row.count port lines ≡ false → HavePortsApart lines → HavePortsApart (ported row port lines)
 apart-ported row port lines there range free own =
-    apart-row row.count (first_place row) port lines (leb-true (first_place row + row.count) (length lines) there)
+    apart-row row.count row.place port lines (leb-true (row.place + row.count) (length lines) there)
     (leb-true 1 port (and_parts (nat_le 1 port) (nat_le (port + row.count) 65536) range).0) free own
 
 -- lines without a port

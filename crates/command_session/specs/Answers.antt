@@ -8,7 +8,7 @@ use Rattle.file_commands.specs.declared.note.Subject.{Subject}
 use Rattle.file_commands.specs.declared.note.Subject.TheVariants as subject
 use Rattle.nova_machine.specs.Machine.{MachineState}
 use Rattle.nova_machine.specs.Seen.{attached_in}
-use Rattle.scp_parser.specs.Command.{Request, Run, Go as GoRequest, Cont, Step, Attach, AttachPort, Detach, Disconnect, Load, Dump, Save, Restore, Do as DoRequest, Exit as ExitRequest}
+use Rattle.scp_parser.specs.Command.{Request, Run, Go as GoRequest, Cont, Step, Attach, AttachPort, Detach, Disconnect, SetConsole, Load, Dump, Save, Restore, Do as DoRequest, Exit as ExitRequest}
 use Rattle.command_session.specs.declared.next.Next.TheVariants.{Go, Ran, Do, Exit}
 use Rattle.command_session.specs.declared.fault.CommandFault.{CommandFault}
 use Rattle.command_session.specs.declared.fault.CommandFault.TheVariants.{NoSuchName, OutOfRange, ReadOnlyName, AlreadyAttached, NotAttached, ReadOnly, NoFile, FileTooLong, FileFailed, PortTaken, PortFailed, Full, AssertFailed, Console, OutOfMemory}
@@ -146,6 +146,28 @@ OfLine (Ok Go) = Unit {0}
 OfLine (Ok next) = ⊥
 OfLine (Err fault) = IsTrue (is_by_tables fault)
 
+-- the console line gets a port: it is always there
+abbrev pub OfTelnet : Answer → Type 0
+OfTelnet (Ok Go) = Unit {0}
+OfTelnet (Ok next) = ⊥
+OfTelnet (Err AlreadyAttached) = Unit {0}
+OfTelnet (Err OutOfRange) = Unit {0}
+OfTelnet (Err PortTaken) = Unit {0}
+OfTelnet (Err PortFailed) = Unit {0}
+OfTelnet (Err OutOfMemory) = Unit {0}
+OfTelnet (Err fault) = ⊥
+
+-- or it has none any more
+abbrev pub OfNoTelnet : Answer → Type 0
+OfNoTelnet (Ok Go) = Unit {0}
+OfNoTelnet (Ok next) = ⊥
+OfNoTelnet (Err NotAttached) = Unit {0}
+OfNoTelnet (Err fault) = ⊥
+
+abbrev pub OfConsole : Option ℕ → Answer → Type 0
+OfConsole (Some port) answer = OfTelnet answer
+OfConsole None answer = OfNoTelnet answer
+
 -- a run stops, or the console refuses a byte
 abbrev pub OfRun : Answer → Type 0
 OfRun (Ok (Ran stop)) = Unit {0}
@@ -233,6 +255,7 @@ CanAnswer (Attach option unit name) answer = OfAttach unit answer
 CanAnswer (AttachPort kind port) answer = OfPort answer
 CanAnswer (Detach unit) answer = OfDetach unit answer
 CanAnswer (Disconnect kind) answer = OfLine answer
+CanAnswer (SetConsole port) answer = OfConsole port answer
 CanAnswer (Run address) answer = OfRun answer
 CanAnswer (GoRequest address) answer = OfRun answer
 CanAnswer Cont answer = OfRun answer

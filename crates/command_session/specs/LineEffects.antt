@@ -1,5 +1,6 @@
 -- ATTACH, DETACH and SHOW of the units whose lines have ports in place of a file, the second teletype and the
--- multiplexer, and SET of the first (SIMH Users' Guide, "Attaching Devices" and "Connecting Terminals").
+-- multiplexer, SET of the first, and SET and SHOW of the console line (SIMH Users' Guide, "Attaching Devices",
+-- "Connecting Terminals" and "Console Options").
 use Rattle.std.specs.Prelude.{ℕ, ◌+◌, ◌-◌, ◌==◌, ◌&&◌, nat_le, Bool, true, false, not, is_none, is_some, List, [], ◌∷◌, ◌++◌, codes, decimal, length, slice_get, Option, Some, None, Ok, Err, if◌then◌else◌}
 use Rattle.unit_trait.specs.declared.kind.Kind.{Kind}
 use Rattle.unit_trait.specs.declared.kind.Kind.TheVariants.{Tti1, Qty}
@@ -9,7 +10,7 @@ use Rattle.telnet_lines.specs.Line.{LineOf, unconnected}
 use Rattle.terminal_ports.specs.Ports.{changed_at}
 use Rattle.terminal_ports.specs.Rows.{changed_row, row_from, with_ports, first_port, are_taken, connected_in}
 use Rattle.terminal_ports.specs.Listening.{rising, listening_each}
-use Rattle.nova_machine.specs.Machine.{place_of}
+use Rattle.nova_machine.specs.Machine.{console_place, place_of}
 use Rattle.command_session.specs.declared.terminal.LineRow.{LineRow}
 use Rattle.command_session.specs.declared.next.Next.TheVariants.{Go}
 use Rattle.command_session.specs.declared.fault.CommandFault.{CommandFault}
@@ -17,7 +18,7 @@ use Rattle.command_session.specs.declared.fault.CommandFault.TheVariants.{Alread
 use Rattle.command_session.specs.Live.{Live, standing}
 use Rattle.command_session.specs.Reply.{Answer, Reply, goes, says, refused}
 
--- ---- the lines of a unit
+-- ---- rows of lines
 
 -- the units that have ports in place of a file: the second teletype and the multiplexer
 abbrev pub is_terminal_kind : Kind → Bool
@@ -28,26 +29,27 @@ is_terminal_kind kind = false
 abbrev pub is_terminal : UnitName → Bool
 is_terminal unit = is_terminal_kind unit.kind
 
--- Their lines, by the number of the first: line 0 is the second teletype's, and lines 1 to 64 are the multiplexer's.
+-- Their lines, by the place of the first among all lines: line 0 is the second teletype's, and lines 1 to 64 are the
+-- multiplexer's.
 abbrev pub row_for : Kind → LineRow
-row_for Qty = record { number = 1; count = 64 }
-row_for kind = record { number = 0; count = 1 }
+row_for Qty = record { place = place_of 1; count = 64 }
+row_for kind = record { place = place_of 0; count = 1 }
 
 -- the lines of all of them, the second teletype's before the multiplexer's
 abbrev pub every_row : LineRow
-every_row = record { number = 0; count = 65 }
+every_row = record { place = place_of 0; count = 65 }
 
--- where the first of a row stands among all lines
-abbrev pub first_place : LineRow → ℕ
-first_place row = place_of row.number
+-- the console line alone, which every machine has
+abbrev pub console_row : LineRow
+console_row = record { place = console_place; count = 1 }
 
--- whether a row is there: the machine has that unit
+-- whether a row is there: of a unit, the machine has that
 abbrev pub has_row : {P : Type 0} → LineRow → List (LineOf P) → Bool
-has_row row lines = nat_le (first_place row + row.count) (length lines)
+has_row row lines = nat_le (row.place + row.count) (length lines)
 
 -- the port of the first of its lines that has one
 abbrev pub row_port : {P : Type 0} → LineRow → List (LineOf P) → Option ℕ
-row_port row lines = first_port row.count (first_place row) lines
+row_port row lines = first_port row.count row.place lines
 
 -- the second teletype's line alone
 abbrev pub terminal_place : ℕ
@@ -56,11 +58,14 @@ terminal_place = place_of 0
 abbrev pub terminal_line : {P : Type 0} → List (LineOf P) → Option (LineOf P)
 terminal_line lines = slice_get lines terminal_place
 
+abbrev pub console_line : {P : Type 0} → List (LineOf P) → Option (LineOf P)
+console_line lines = slice_get lines console_place
+
 -- ---- what becomes of lines
 
 -- the lines of a row have so many ports, from one on, and nobody is connected
 abbrev pub ported : {P : Type 0} → LineRow → ℕ → List (LineOf P) → List (LineOf P)
-ported row port lines = with_ports (row_from row.count (first_place row) port) lines
+ported row port lines = with_ports (row_from row.count row.place port) lines
 
 -- a line with a port to which nobody is connected any more
 abbrev pub hung_by : {P : Type 0} → Option ℕ → LineOf P → LineOf P
@@ -83,7 +88,7 @@ closed line = closed_by line.port line
 
 -- the lines of a row have no port any more
 abbrev pub unported : {P : Type 0} → LineRow → List (LineOf P) → List (LineOf P)
-unported row lines = changed_row row.count (first_place row) closed lines
+unported row lines = changed_row row.count row.place closed lines
 
 -- a reply, unless there is a fault before
 abbrev pub unless_refused : Option CommandFault → Reply → Live → Reply
@@ -140,11 +145,13 @@ detach_fault row lines =
     else if is_none (row_port row lines) then Some NotAttached
     else None
 
+abbrev pub detach_row : LineRow → Live → Reply
+detach_row row live =
+    unless_refused (detach_fault row live.lines) (goes (record live { lines = unported row live.lines })) live
+
 -- DETACH drops the connections to the lines of a unit, where they stand, and their ports are listened on no longer
 unfoldable pub detach_port_reply : Live → Kind → Reply
-detach_port_reply live kind =
-    let row = row_for kind in
-    unless_refused (detach_fault row live.lines) (goes (record live { lines = unported row live.lines })) live
+detach_port_reply live kind = detach_row (row_for kind) live
 
 -- what needs a line that has a port
 abbrev pub with_port : Option (LineOf Peer) → Reply → Live → Reply
@@ -156,6 +163,14 @@ unfoldable pub disconnect_reply : Live → Reply
 disconnect_reply live =
     with_port (terminal_line live.lines) (goes (record live { lines = hung_up terminal_place live.lines })) live
 
+-- ---- SET of the console line
+
+-- TELNET gives the console line a port that no line has, which is listened on from then on. NOTELNET drops the
+-- connection to it, where one stands, and its port is listened on no longer.
+unfoldable pub set_console_reply : Live → Option ℕ → Reply
+set_console_reply live (Some port) = attach_row console_row port live
+set_console_reply live None = detach_row console_row live
+
 -- ---- SHOW
 
 abbrev pub connected_text : Bool → List ℕ
@@ -165,13 +180,13 @@ abbrev pub port_text : {P : Type 0} → Option ℕ → Option P → List ℕ
 port_text None connection = codes ", not attached"
 port_text (Some port) connection = codes ", listening on port " ++ decimal port ++ connected_text (is_some connection)
 
--- the line of text of the second teletype's line
-abbrev pub line_text : {P : Type 0} → LineOf P → List ℕ
-line_text line = codes "TTI1" ++ port_text line.port line.connection ++ 10 ∷ []
+-- the line of text of a line by itself, which has that name
+abbrev pub line_text : {P : Type 0} → List ℕ → LineOf P → List ℕ
+line_text name line = name ++ port_text line.port line.connection ++ 10 ∷ []
 
-abbrev pub show_line : Option (LineOf Peer) → Live → Reply
-show_line None live = refused NoSuchName live
-show_line (Some line) live = says (line_text line) live
+abbrev pub show_line : List ℕ → Option (LineOf Peer) → Live → Reply
+show_line name None live = refused NoSuchName live
+show_line name (Some line) live = says (line_text name line) live
 
 abbrev pub many_connected_text : ℕ → List ℕ
 many_connected_text many = if many == 0 then [] else codes ", " ++ decimal many ++ codes " connected"
@@ -185,7 +200,7 @@ ports_text (Some port) count many =
 -- the line of text of the multiplexer's lines
 abbrev pub row_text : {P : Type 0} → LineRow → List (LineOf P) → List ℕ
 row_text row lines =
-    codes "QTY" ++ ports_text (row_port row lines) row.count (connected_in row.count (first_place row) lines) ++ 10 ∷ []
+    codes "QTY" ++ ports_text (row_port row lines) row.count (connected_in row.count row.place lines) ++ 10 ∷ []
 
 abbrev pub show_row : LineRow → Live → Reply
 show_row row live = if has_row row live.lines then says (row_text row live.lines) live else refused NoSuchName live
@@ -193,4 +208,8 @@ show_row row live = if has_row row live.lines then says (row_text row live.lines
 -- SHOW of a unit with ports
 abbrev pub show_ports : Kind → Live → Reply
 show_ports Qty live = show_row (row_for Qty) live
-show_ports kind live = show_line (terminal_line live.lines) live
+show_ports kind live = show_line (codes "TTI1") (terminal_line live.lines) live
+
+-- SHOW of the console line
+abbrev pub show_console : Live → Reply
+show_console live = show_line (codes "CONSOLE") (console_line live.lines) live

@@ -13,11 +13,12 @@ use Rattle.telnet_lines.specs.Many.{AreApart}
 use Rattle.terminal_ports.specs.Ports.{HavePortsApart}
 use Rattle.terminal_ports.specs.Listening.{rising, ListensEach}
 use Rattle.nova_machine.specs.LineChanges.{HasConnection, HearsOn}
-use Rattle.scp_parser.specs.Command.{Request, AttachPort, Restore}
+use Rattle.scp_parser.specs.Command.{Request, AttachPort, SetConsole, Restore}
 use Rattle.command_session.specs.declared.next.Next.TheVariants.{Go}
 use Rattle.command_session.specs.declared.fault.CommandFault.TheVariants.{OutOfMemory, PortFailed, NotAttached}
 use Rattle.command_session.specs.Reply.{Answer}
-use Rattle.command_session.specs.LineEffects.{row_for}
+use Rattle.command_session.specs.declared.terminal.LineRow.{LineRow}
+use Rattle.command_session.specs.LineEffects.{row_for, console_row}
 
 -- one of the lines has that port
 abbrev pub HasPort : ℕ → List (LineOf ℕ) → Type 0
@@ -72,18 +73,28 @@ Unlistened (Err PortFailed) = Unit {0}
 Unlistened (Err OutOfMemory) = Unit {0}
 Unlistened answer = ⊥
 
--- an ATTACH of a port, or a RESTORE, for which that is so
+-- an ATTACH of a port, a SET of the console line's, or a RESTORE, for which that is so
 abbrev pub IsUnlistened : Request → Answer → Type 0
 IsUnlistened (AttachPort kind port) answer = Unlistened answer
+IsUnlistened (SetConsole (Some port)) answer = Unlistened answer
 IsUnlistened (Restore force name) answer = Unlistened answer
 IsUnlistened request answer = ⊥
 
 -- `Port not available` comes only where a listening failed, and the count of faults rose. The ports before it were
 -- given up again, and so were they where memory ran out.
+abbrev pub RowCause : Bool → LineRow → ℕ → Answer → LineState → LineState → Type 0
+RowCause tells row port (Err PortFailed) old new = ListensEach tells (rising row.count port) (Err listen.Failed) old new
+RowCause tells row port (Err OutOfMemory) old new = ListensEach tells (rising row.count port) (Err listen.OutOfMemory) old new
+RowCause tells row port answer old new = Unit {0}
+
+-- so it is with ATTACH
 abbrev pub AttachCause : Bool → Kind → ℕ → Answer → LineState → LineState → Type 0
-AttachCause tells kind port (Err PortFailed) old new = ListensEach tells (rising (row_for kind).count port) (Err listen.Failed) old new
-AttachCause tells kind port (Err OutOfMemory) old new = ListensEach tells (rising (row_for kind).count port) (Err listen.OutOfMemory) old new
-AttachCause tells kind port answer old new = Unit {0}
+AttachCause tells kind port answer old new = RowCause tells (row_for kind) port answer old new
+
+-- and with SET of the console line, of which NOTELNET listens on nothing
+abbrev pub ConsoleCause : Bool → Option ℕ → Answer → LineState → LineState → Type 0
+ConsoleCause tells (Some port) answer old new = RowCause tells console_row port answer old new
+ConsoleCause tells None answer old new = answer ≢ Err PortFailed
 
 -- The ports of a saved session were listened on one behind another: one was not to be had, or memory ran out before it,
 -- and those before it were given up again.
@@ -100,6 +111,7 @@ RestoreCause tells answer old new = Unit {0}
 -- it is no answer of any other command
 abbrev pub ListenCause : Bool → Request → Answer → LineState → LineState → Type 0
 ListenCause tells (AttachPort kind port) answer old new = AttachCause tells kind port answer old new
+ListenCause tells (SetConsole port) answer old new = ConsoleCause tells port answer old new
 ListenCause tells (Restore force name) answer old new = RestoreCause tells answer old new
 ListenCause tells request answer old new = answer ≢ Err PortFailed
 

@@ -1,10 +1,10 @@
 -- What each command is by nature. A command that joins names itself here, and what is said of every command follows.
-use Rattle.std.specs.Prelude.{◌≡◌, Bool, true, false, Option, Some, None, if◌then◌else◌}
+use Rattle.std.specs.Prelude.{◌≡◌, ℕ, Bool, true, false, Option, Some, None, is_some, if◌then◌else◌}
 use Rattle.file_commands.specs.declared.note.Subject.{Subject}
 use Rattle.file_commands.specs.declared.note.Subject.TheVariants as subject
 use Rattle.unit_trait.specs.declared.kind.UnitName.{UnitName}
 use Rattle.command_session.specs.LineEffects.{is_terminal}
-use Rattle.scp_parser.specs.Command.{Request, Run, Go, Cont, Step, Break, Expect, Attach, AttachPort, Detach, Disconnect, Load, Dump, Save, Restore, Do, Exit}
+use Rattle.scp_parser.specs.Command.{Request, Run, Go, Cont, Step, Break, Expect, Attach, AttachPort, Detach, Disconnect, SetConsole, Load, Dump, Save, Restore, Do, Exit}
 
 -- what of files and lines has to be told, so that all that a command does is
 pub data Telling : Type 0 where
@@ -51,6 +51,11 @@ abbrev pub detach_telling : Option UnitName → Telling
 detach_telling None = Ported
 detach_telling (Some unit) = if is_terminal unit then Ported else Nothing
 
+-- a SET of the console line, which gets a port, or has none any more
+abbrev pub console_telling : Option ℕ → Telling
+console_telling (Some port) = Listening
+console_telling None = Ported
+
 abbrev pub nature : Request → Nature
 nature (Attach option unit name) = of_nature Named true None true false
 nature (AttachPort kind port) = of_nature Listening true None false false
@@ -67,6 +72,7 @@ nature (Break at count actions) = of_nature Nothing true None false false
 nature (Expect count text actions) = of_nature Nothing true None false false
 nature (Detach unit) = of_nature (detach_telling unit) false None true false
 nature (Disconnect kind) = of_nature Ported false None false false
+nature (SetConsole port) = of_nature (console_telling port) (is_some port) None false false
 nature (Exit status) = of_nature Ported false None true false
 nature request = plain
 

@@ -11,7 +11,7 @@ use Rattle.command_session.specs.declared.next.Next.TheVariants.{Go}
 use Rattle.command_session.specs.declared.fault.CommandFault.{CommandFault}
 use Rattle.command_session.specs.declared.fault.CommandFault.TheVariants.{NoSuchName}
 use Rattle.command_session.specs.Reply.{Answer}
-use Rattle.command_session.specs.LineEffects.{is_terminal, row_for, every_row, first_place, terminal_place, ported, closed, hung, attach_fault, detach_fault}
+use Rattle.command_session.specs.LineEffects.{is_terminal, row_for, every_row, console_row, terminal_place, ported, closed, hung, attach_fault, detach_fault}
 use Rattle.command_session.specs.LinesLeft.{GivesUp, listened_answer, needs_port}
 
 -- Nothing was asked of the outside, and the lines are as they were.
@@ -75,7 +75,7 @@ ClosesEach (suc left) place old before new after =
     × closes_at place (slice_get before place) old before mid between × ClosesEach left (suc place) mid between new after
 
 abbrev pub ClosesRow : LineRow → LineState → List (LineOf ℕ) → LineState → List (LineOf ℕ) → Type 0
-ClosesRow row old before new after = ClosesEach row.count (first_place row) old before new after
+ClosesRow row old before new after = ClosesEach row.count row.place old before new after
 
 -- the ports of a row were given up
 pub record Closes (row : LineRow) (answer : Answer) (old : LineState) (before : List (LineOf ℕ)) (new : LineState) (after : List (LineOf ℕ)) : Type 0 where
@@ -86,10 +86,18 @@ abbrev pub detaches_row : Option CommandFault → LineRow → Answer → LineSta
 detaches_row (Some fault) row answer old before new after = Refused fault answer old before new after
 detaches_row None row answer old before new after = Closes row answer old before new after
 
+abbrev pub DetachesRow : LineRow → Answer → LineState → List (LineOf ℕ) → LineState → List (LineOf ℕ) → Type 0
+DetachesRow row answer old before new after = detaches_row (detach_fault row before) row answer old before new after
+
 -- DETACH of a unit with ports
 abbrev pub DetachesPort : Kind → Answer → LineState → List (LineOf ℕ) → LineState → List (LineOf ℕ) → Type 0
-DetachesPort kind answer old before new after =
-    detaches_row (detach_fault (row_for kind) before) (row_for kind) answer old before new after
+DetachesPort kind answer old before new after = DetachesRow (row_for kind) answer old before new after
+
+-- SET of the console line
+abbrev pub SetsConsole : Bool → Option ℕ → Answer → LineState → List (LineOf ℕ) → LineState → List (LineOf ℕ) → Type 0
+SetsConsole tells (Some port) answer old before new after =
+    AttachesRow tells console_row port answer old before new after
+SetsConsole tells None answer old before new after = DetachesRow console_row answer old before new after
 
 -- SET of the second teletype
 abbrev pub disconnects_at : ℕ → Option (LineOf ℕ) → Answer → LineState → List (LineOf ℕ) → LineState → List (LineOf ℕ) → Type 0

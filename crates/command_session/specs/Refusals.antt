@@ -1,5 +1,5 @@
 -- What a command is refused for before it wants any memory.
-use Rattle.std.specs.Prelude.{◌≡◌, ◌<◌, ◌==◌, ◌&&◌, ℕ, nat_le, Bool, true, false, List, None, Err, length}
+use Rattle.std.specs.Prelude.{◌≡◌, ◌<◌, ◌==◌, ◌&&◌, ℕ, nat_le, Bool, true, false, List, Some, None, Err, length}
 use Rattle.file_traits.specs.State.{FileState}
 use Rattle.unit_files.specs.Attachments.{attachment_at}
 use Rattle.unit_files.specs.Acts.{refused_first}
@@ -9,12 +9,12 @@ use Rattle.nova_machine.specs.Machine.{MachineState}
 use Rattle.nova_machine.specs.Seen.{attached_in}
 use Rattle.whole_files.specs.declared.whole.WholeFault.TheVariants as whole
 use Rattle.whole_files.specs.Claims.{WholeCause}
-use Rattle.scp_parser.specs.Command.{Request, Break, Expect, Attach, AttachPort, Dump, Restore, Do, Load}
+use Rattle.scp_parser.specs.Command.{Request, Break, Expect, Attach, AttachPort, SetConsole, Dump, Restore, Do, Load}
 use Rattle.command_session.specs.declared.fault.CommandFault.TheVariants.{NoFile, FileTooLong, OutOfMemory}
 use Rattle.command_session.specs.Reply.{Answer}
 use Rattle.command_session.specs.RunEffects.{last_address}
 use Rattle.command_session.specs.WatchEffects.{largest_count, lacks_room_for_break, can_be_expected, text_of_quoted}
-use Rattle.command_session.specs.LineEffects.{row_for, attach_fault}
+use Rattle.command_session.specs.LineEffects.{row_for, console_row, attach_fault}
 use Rattle.command_session.specs.FileEffects.{lacks_unit, mode_of}
 use Rattle.command_session.specs.Occupied.{is_occupied}
 use Rattle.command_session.specs.TapeEffects.{can_dump}
@@ -31,6 +31,7 @@ IsUnrefused (Expect count quoted actions) m w =
 IsUnrefused (Attach option unit name) m w =
     (lacks_unit m unit ≡ false) × (refused_first (attachment_at (attached_in m) unit) unit (mode_of option) ≡ None)
 IsUnrefused (AttachPort kind port) m w = attach_fault (row_for kind) port m.lines ≡ None
+IsUnrefused (SetConsole (Some port)) m w = attach_fault console_row port m.lines ≡ None
 IsUnrefused (Dump from to name) m w = can_dump m from to ≡ true
 IsUnrefused (Restore force name) m w = is_occupied (attached_in m) m.lines ≡ false
 IsUnrefused request m w = Unit {0}

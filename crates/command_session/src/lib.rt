@@ -20,7 +20,7 @@ pub use line_ports::{close, hang_up};
 pub use next::{Next, told_or_console};
 pub use session::Session;
 pub use stamps::stamp_of;
-pub use terminal::{EVERY_ROW, LineRow, TERMINAL, close_row, row_for};
+pub use terminal::{CONSOLE_ROW, EVERY_ROW, LineRow, TERMINAL, close_row, row_for};
 pub use unit_names::unit_name;
 pub use units::{is_terminal, lacks_unit};
 pub use whole_notes::{note_call, note_reading, note_writing, written_answer};

@@ -1,4 +1,4 @@
--- What ATTACH and DETACH of the units with ports come to, and SET of the second teletype.
+-- What ATTACH and DETACH of ports come to, and SET of the second teletype.
 use Rattle.std.proofs.Common.{◌≡◌, ◌↔◌, ◌∙◌, ap, sym, refl, subst, ℕ, ◌+◌, Bool, true, nat_le, List, length, map, slice_get, slice_set, option_map, Option, Some, None, IfSome, is_none, if◌then◌else◌, Result, Ok, Err}
 use Rattle.std.proofs.lemmas.Bool.{and_parts, leb-true}
 use Rattle.std.proofs.lemmas.Option.{slice_get-map}
@@ -26,15 +26,16 @@ use Rattle.command_session.specs.declared.fault.CommandFault.{CommandFault}
 use Rattle.command_session.specs.declared.fault.CommandFault.TheVariants.{NoSuchName, NotAttached, PortFailed, OutOfMemory}
 use Rattle.command_session.specs.Live.{Live, standing}
 use Rattle.command_session.specs.Reply.{Answer, Reply, goes, refused}
-use Rattle.command_session.specs.LineEffects.{row_for, first_place, terminal_place, terminal_line, ported, unported, hung, hung_up, unless_refused, attach_fault, listen_with, attach_port_reply}
-use Rattle.command_session.specs.LineEffects.{detach_fault, detach_port_reply, with_port, disconnect_reply}
-use Rattle.command_session.specs.LinesLeft.{LinesLeft, SeenAs, listened_answer, needs_port, AttachCause}
-use Rattle.command_session.specs.PortAnswers.{listened_lines, attaches_by, AttachesRow}
+use Rattle.command_session.specs.LineEffects.{row_for, console_row, has_row, terminal_place, terminal_line, ported, unported, hung, hung_up, unless_refused, attach_fault, listen_with, attach_row, attach_port_reply}
+use Rattle.command_session.specs.LineEffects.{detach_fault, detach_row, detach_port_reply, set_console_reply, with_port, disconnect_reply}
+use Rattle.command_session.specs.LinesLeft.{LinesLeft, SeenAs, listened_answer, needs_port, RowCause}
+use Rattle.command_session.specs.PortAnswers.{listened_lines, attaches_by, AttachesRow, detaches_row, DetachesRow}
 use Rattle.command_session.specs.Doing.{Does, IsPlain, IsRefused}
+use Rattle.command_session.specs.Answers.{OfTelnet, OfNoTelnet}
 use Rattle.command_session.proofs.ReplyLemmas.{silent-does, goes-said, refused-said}
 use Rattle.command_session.proofs.PortLemmas.{hung-none, seen-still, left-same}
 use Rattle.command_session.proofs.RowsLeft.{left-row, left-refused}
-use Rattle.host_commands.proofs.PortFaults.{attach-each, attach-asks, attach-seen, detach-each, detach-seen}
+use Rattle.host_commands.proofs.PortFaults.{attach-each, attach-there, attach-asks, attach-seen, detach-each, detach-there, detach-seen}
 
 -- the line of the second teletype, as it is seen
 terminal-at : (s : LineState) (lines : List (LineOf ℕ)) (o : Option (LineOf ℕ)) → slice_get lines terminal_place ≡ o → terminal_line (map (seen_line s) lines) ≡ option_map (seen_line s) o
@@ -101,31 +102,57 @@ module _ (watch : WatchState) (keys : List (ℕ × ℕ)) (files : List NamedByte
 
   -- ---- DETACH
 
-  pub detach-refused-does : (s : LineState) (kind : Kind) (fault : CommandFault) → Some fault ≡ detach_fault (row_for kind) m.lines
-      → Does (detach_port_reply (seen (beside watch keys files s) whole m) kind) (Err fault) (standing 0 (seen (beside watch keys files s) whole m)) tells text text
-  unfolding detach_port_reply
-  detach-refused-does s kind fault is =
-      let live = seen (beside watch keys files s) whole m in
-      refused-does fault (goes (record live { lines = unported (row_for kind) live.lines })) live (detach_fault (row_for kind) live.lines) (detach-seen s (row_for kind) m.lines ∙ sym is)
-      (detach-each (row_for kind) live.lines (λ (f : CommandFault). IsPlain (Err f)) tt tt)
+  module _ (old new : LineState) (row : LineRow) (after : List (LineOf ℕ)) where
+    detach-closed : SeenAs (unported row) old m.lines new after
+        → Does (goes (record (seen (beside watch keys files old) whole m) { lines = unported row (seen (beside watch keys files old) whole m).lines })) (Ok Go)
+        (standing 0 (seen (beside watch keys files new) whole (record m { lines = after }))) tells text text
+    detach-closed shown =
+        let live = seen (beside watch keys files old) whole m in
+        let left = record live { lines = unported row live.lines } in
+        let same : seen (beside watch keys files new) whole (record m { lines = after }) ≡ left = λ i. record live { lines = shown.lines i; ahead = ahead_of (shown.told i) whole } in
+        subst (λ (l : Live). Does (goes left) (Ok Go) (standing 0 l) tells text text) (sym same) (refl, goes-said left tells text)
 
-  pub detach-does : (old new : LineState) (kind : Kind) (after : List (LineOf ℕ)) → None ≡ detach_fault (row_for kind) m.lines → SeenAs (unported (row_for kind)) old m.lines new after
-      → Does (detach_port_reply (seen (beside watch keys files old) whole m) kind) (Ok Go) (standing 0 (seen (beside watch keys files new) whole (record m { lines = after }))) tells text text
+    pub detach-row-does : (answer : Answer) → DetachesRow row answer old m.lines new after → (answer ≡ Ok Go → SeenAs (unported row) old m.lines new after)
+        → Does (detach_row row (seen (beside watch keys files old) whole m)) answer (standing 0 (seen (beside watch keys files new) whole (record m { lines = after }))) tells text text
+    detach-row-does answer detaches shown = by (detach_fault row m.lines) refl detaches
+      where
+        live : Live
+        live = seen (beside watch keys files old) whole m
+
+        left : Live
+        left = seen (beside watch keys files new) whole (record m { lines = after })
+
+        closing : Reply
+        closing = goes (record live { lines = unported row live.lines })
+
+        by : (o : Option CommandFault) → detach_fault row m.lines ≡ o → detaches_row o row answer old m.lines new after
+            → Does (unless_refused (detach_fault row live.lines) closing live) answer (standing 0 left) tells text text
+        by (Some fault) is refused =
+            let same : left ≡ live = (λ i. seen (beside watch keys files (refused.stay.outside i)) whole (record m { lines = refused.stay.lines i })) in
+            subst (λ (a : Answer). Does (unless_refused (detach_fault row live.lines) closing live) a (standing 0 left) tells text text) (sym refused.answer_is)
+            (subst (λ (l : Live). Does (unless_refused (detach_fault row live.lines) closing live) (Err fault) (standing 0 l) tells text text) (sym same)
+            (refused-does fault closing live (detach_fault row live.lines) (detach-seen old row m.lines ∙ is)
+            (detach-each row live.lines (λ (f : CommandFault). IsPlain (Err f)) tt tt)))
+        by None is closes =
+            subst (λ (a : Answer). Does (unless_refused (detach_fault row live.lines) closing live) a (standing 0 left) tells text text) (sym closes.answer_is)
+            (goes-on closing (Ok Go) live left (detach_fault row live.lines) (detach-seen old row m.lines ∙ is) (detach-closed (shown closes.answer_is)))
+
+  pub detach-does : (old new : LineState) (kind : Kind) (after : List (LineOf ℕ)) (answer : Answer) → DetachesRow (row_for kind) answer old m.lines new after
+      → (answer ≡ Ok Go → SeenAs (unported (row_for kind)) old m.lines new after)
+      → Does (detach_port_reply (seen (beside watch keys files old) whole m) kind) answer (standing 0 (seen (beside watch keys files new) whole (record m { lines = after }))) tells text text
   unfolding detach_port_reply
-  detach-does old new kind after none shown =
-      let live = seen (beside watch keys files old) whole m in
-      let left = record live { lines = unported (row_for kind) live.lines } in
-      let same : seen (beside watch keys files new) whole (record m { lines = after }) ≡ left = λ i. record live { lines = shown.lines i; ahead = ahead_of (shown.told i) whole } in
-      goes-on (goes left) (Ok Go) live (seen (beside watch keys files new) whole (record m { lines = after })) (detach_fault (row_for kind) live.lines)
-      (detach-seen old (row_for kind) m.lines ∙ sym none)
-      (subst (λ (l : Live). Does (goes left) (Ok Go) (standing 0 l) tells text text) (sym same) (refl, goes-said left tells text))
+  detach-does old new kind after answer detaches shown = detach-row-does old new (row_for kind) after answer detaches shown
+
+  -- NOTELNET of the console line
+  pub no_telnet-does : (old new : LineState) (after : List (LineOf ℕ)) (answer : Answer) → DetachesRow console_row answer old m.lines new after
+      → (answer ≡ Ok Go → SeenAs (unported console_row) old m.lines new after)
+      → Does (set_console_reply (seen (beside watch keys files old) whole m) None) answer (standing 0 (seen (beside watch keys files new) whole (record m { lines = after }))) tells text text
+  unfolding set_console_reply
+  no_telnet-does old new after answer detaches shown = detach-row-does old new console_row after answer detaches shown
 
   -- ---- ATTACH
 
-  module _ (old new : LineState) (kind : Kind) (port : ℕ) where
-    abbrev row : LineRow
-    row = row_for kind
-
+  module _ (old new : LineState) (row : LineRow) (port : ℕ) where
     abbrev live : Live
     live = seen (beside watch keys files old) whole m
 
@@ -155,7 +182,7 @@ module _ (watch : WatchState) (keys : List (ℕ × ℕ)) (files : List NamedByte
     listen-does (Ok x) after is each first =
         let done = record live { lines = ported row port live.lines; ahead = ahead_of new.told whole } in
         let shown : map (seen_line new) after ≡ ported row port live.lines =
-        ap (map (seen_line new)) is ∙ seen-ports new (row_from row.count (first_place row) port) m.lines ∙ ap (ported row port) (seen-still old new m.lines each.behind) in
+        ap (map (seen_line new)) is ∙ seen-ports new (row_from row.count row.place port) m.lines ∙ ap (ported row port) (seen-still old new m.lines each.behind) in
         let same : left after ≡ done = λ i. record live { lines = shown i; ahead = ahead_of new.told whole } in
         subst (λ (r : Replied). Does (listen_with r row port live) (Ok Go) (standing 0 (left after)) tells text text) (sym (all-said each first))
         (subst (λ (l : Live). Does (listen_with (replied Quiet (ahead_of new.told whole)) row port live) (Ok Go) (standing 0 l) tells text text) (sym same) (refl, goes-said done tells text))
@@ -166,10 +193,9 @@ module _ (watch : WatchState) (keys : List (ℕ × ℕ)) (files : List NamedByte
         (sym (left-as (ahead_of new.told whole) after is each.behind refl)) (refl, refused-said PortFailed done tells text))
     listen-does (Err listen.OutOfMemory) after is each first = tt
 
-    pub attach-does : (answer : Answer) (after : List (LineOf ℕ)) → AttachesRow true row port answer old m.lines new after → IsFirst (record_in new.told) whole
-        → Does (attach_port_reply live kind port) answer (standing 0 (left after)) tells text text
-    unfolding attach_port_reply
-    attach-does answer after attaches first = by (attach_fault row port m.lines) refl attaches
+    attach-row-does : (answer : Answer) (after : List (LineOf ℕ)) → AttachesRow true row port answer old m.lines new after → IsFirst (record_in new.told) whole
+        → Does (attach_row row port live) answer (standing 0 (left after)) tells text text
+    attach-row-does answer after attaches first = by (attach_fault row port m.lines) refl attaches
       where
         by : (o : Option CommandFault) → attach_fault row port m.lines ≡ o → attaches_by o true row port answer old m.lines new after
             → Does (unless_refused (attach_fault row port live.lines) (listen_with (listening_each (rising row.count port) live.ahead) row port live) live) answer (standing 0 (left after)) tells text text
@@ -187,10 +213,23 @@ module _ (watch : WatchState) (keys : List (ℕ × ℕ)) (files : List NamedByte
             (subst (λ (a : Answer). Does (listen_with (listening_each (rising row.count port) live.ahead) row port live) a (standing 0 (left after)) tells text text) (sym tried.answer_is)
             (listen-does tried.result after tried.lines tried.listened first))
 
+  pub attach-does : (old new : LineState) (kind : Kind) (port : ℕ) (answer : Answer) (after : List (LineOf ℕ)) → AttachesRow true (row_for kind) port answer old m.lines new after
+      → IsFirst (record_in new.told) whole
+      → Does (attach_port_reply (seen (beside watch keys files old) whole m) kind port) answer (standing 0 (seen (beside watch keys files new) whole (record m { lines = after }))) tells text text
+  unfolding attach_port_reply
+  attach-does old new kind port answer after attaches first = attach-row-does old new (row_for kind) port answer after attaches first
+
+  -- TELNET of the console line
+  pub telnet-does : (old new : LineState) (port : ℕ) (answer : Answer) (after : List (LineOf ℕ)) → AttachesRow true console_row port answer old m.lines new after
+      → IsFirst (record_in new.told) whole
+      → Does (set_console_reply (seen (beside watch keys files old) whole m) (Some port)) answer (standing 0 (seen (beside watch keys files new) whole (record m { lines = after }))) tells text text
+  unfolding set_console_reply
+  telnet-does old new port answer after attaches first = attach-row-does old new console_row port answer after attaches first
+
 -- ---- what ATTACH leaves of the outside, and why it was refused
 
 module _ (tells : Bool) (row : LineRow) (port : ℕ) (answer : Answer) (old new : LineState) (before after : List (LineOf ℕ)) where
-  pub attach-left : AttachesRow tells row port answer old before new after → (attach_fault row port before ≡ None → AreFree row.count (first_place row) before)
+  pub attach-left : AttachesRow tells row port answer old before new after → (attach_fault row port before ≡ None → AreFree row.count row.place before)
       → LinesLeft tells old before new after
   attach-left attaches free = by (attach_fault row port before) refl attaches
     where
@@ -200,7 +239,7 @@ module _ (tells : Bool) (row : LineRow) (port : ℕ) (answer : Answer) (old new 
           let asks = attach-asks row port before none in
           let range = and_parts (nat_le 1 port) (nat_le (port + row.count) 65536) asks.1 in
           subst (λ (ls : List (LineOf ℕ)). LinesLeft tells old before new ls) (sym is)
-          (left-row row.count (first_place row) port tells old new before (leb-true (first_place row + row.count) (length before) asks.0) (free none)
+          (left-row row.count row.place port tells old new before (leb-true (row.place + row.count) (length before) asks.0) (free none)
           (leb-true 1 port range.0) asks.2 each)
       listened (Err fault) none is each =
           subst (λ (ls : List (LineOf ℕ)). LinesLeft tells old before new ls) (sym is)
@@ -255,22 +294,59 @@ module _ (tells : Bool) (row : LineRow) (port : ℕ) (answer : Answer) (old new 
       )
       by None tried = (λ is. absurd (listened tried.result (sym tried.answer_is ∙ is)), λ is. absurd (cc))
 
--- a listening that came to nothing is the cause of two answers
-pub attach-cause : (tells : Bool) (kind : Kind) (port : ℕ) (answer : Answer) (old new : LineState) (before after : List (LineOf ℕ)) → AttachesRow tells (row_for kind) port answer old before new after
-    → AttachCause tells kind port answer old new
-attach-cause tells kind port answer old new before after attaches =
-    by (attach_fault (row_for kind) port before) attaches
-    (attach-each (row_for kind) port before (λ (f : CommandFault). AttachCause tells kind port (Err f) old new) tt tt tt tt)
+-- `No such name` is the answer of DETACH just where it is the fault
+pub detach-names : (row : LineRow) (answer : Answer) (old new : LineState) (before after : List (LineOf ℕ)) → DetachesRow row answer old before new after
+    → (answer ≡ Err NoSuchName) ↔ (detach_fault row before ≡ Some NoSuchName)
+detach-names row answer old new before after detaches = by (detach_fault row before) detaches
   where
-    cause-of : (result : Result (Unit {0}) ListenFault) → ListensEach tells (rising (row_for kind).count port) result old new → AttachCause tells kind port (listened_answer result) old new
+    by : (o : Option CommandFault) → detaches_row o row answer old before new after → (answer ≡ Err NoSuchName) ↔ (o ≡ Some NoSuchName)
+    by (Some fault) stays = (
+      λ is. let both : Err fault ≡ Err NoSuchName = sym stays.answer_is ∙ is in let own : fault ≡ NoSuchName = cc in ap Some own,
+      λ is. let own : fault ≡ NoSuchName = cc in stays.answer_is ∙ ap Err own,
+    )
+    by None closes = (λ is. absurd (let both = sym closes.answer_is ∙ is in cc), λ is. absurd (cc))
+
+-- a listening that came to nothing is the cause of two answers
+pub attach-cause : (tells : Bool) (row : LineRow) (port : ℕ) (answer : Answer) (old new : LineState) (before after : List (LineOf ℕ)) → AttachesRow tells row port answer old before new after
+    → RowCause tells row port answer old new
+attach-cause tells row port answer old new before after attaches =
+    by (attach_fault row port before) attaches
+    (attach-each row port before (λ (f : CommandFault). RowCause tells row port (Err f) old new) tt tt tt tt)
+  where
+    cause-of : (result : Result (Unit {0}) ListenFault) → ListensEach tells (rising row.count port) result old new → RowCause tells row port (listened_answer result) old new
     cause-of (Ok x) each = tt
     cause-of (Err listen.Failed) each = each
     cause-of (Err listen.OutOfMemory) each = each
 
-    by : (o : Option CommandFault) → attaches_by o tells (row_for kind) port answer old before new after → IfSome o (λ (f : CommandFault). AttachCause tells kind port (Err f) old new)
-        → AttachCause tells kind port answer old new
-    by (Some fault) stays own = subst (λ (a : Answer). AttachCause tells kind port a old new) (sym stays.answer_is) own
-    by None tried own = subst (λ (a : Answer). AttachCause tells kind port a old new) (sym tried.answer_is) (cause-of tried.result tried.listened)
+    by : (o : Option CommandFault) → attaches_by o tells row port answer old before new after → IfSome o (λ (f : CommandFault). RowCause tells row port (Err f) old new)
+        → RowCause tells row port answer old new
+    by (Some fault) stays own = subst (λ (a : Answer). RowCause tells row port a old new) (sym stays.answer_is) own
+    by None tried own = subst (λ (a : Answer). RowCause tells row port a old new) (sym tried.answer_is) (cause-of tried.result tried.listened)
+
+-- what the console line's port comes to, since that line is there
+pub telnet-answers : (tells : Bool) (row : LineRow) (port : ℕ) (answer : Answer) (old new : LineState) (before after : List (LineOf ℕ)) → AttachesRow tells row port answer old before new after
+    → has_row row before ≡ true → OfTelnet answer
+telnet-answers tells row port answer old new before after attaches there =
+    by (attach_fault row port before) attaches
+    (attach-there row port before there (λ (f : CommandFault). OfTelnet (Err f)) tt tt tt)
+  where
+    listened : (result : Result (Unit {0}) ListenFault) → OfTelnet (listened_answer result)
+    listened (Ok x) = tt
+    listened (Err listen.Failed) = tt
+    listened (Err listen.OutOfMemory) = tt
+
+    by : (o : Option CommandFault) → attaches_by o tells row port answer old before new after → IfSome o (λ (f : CommandFault). OfTelnet (Err f)) → OfTelnet answer
+    by (Some fault) stays own = subst OfTelnet (sym stays.answer_is) own
+    by None tried own = subst OfTelnet (sym tried.answer_is) (listened tried.result)
+
+pub no_telnet-answers : (row : LineRow) (answer : Answer) (old new : LineState) (before after : List (LineOf ℕ)) → DetachesRow row answer old before new after
+    → has_row row before ≡ true → OfNoTelnet answer
+no_telnet-answers row answer old new before after detaches there =
+    by (detach_fault row before) detaches (detach-there row before there (λ (f : CommandFault). OfNoTelnet (Err f)) tt)
+  where
+    by : (o : Option CommandFault) → detaches_row o row answer old before new after → IfSome o (λ (f : CommandFault). OfNoTelnet (Err f)) → OfNoTelnet answer
+    by (Some fault) stays own = subst OfNoTelnet (sym stays.answer_is) own
+    by None closes own = subst OfNoTelnet (sym closes.answer_is) tt
 
 -- ---- where SET is refused, the machine is as it was
 

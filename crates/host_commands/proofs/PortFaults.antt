@@ -1,6 +1,7 @@
 -- Why ATTACH and DETACH of ports are refused, by what is asked of a row of lines.
-use Rattle.std.proofs.Common.{◌≡◌, ◌↔◌, ◌∙◌, ap, sym, refl, subst, ℕ, ◌+◌, Bool, true, false, true≢false, not, nat_le, is_some, is_none, List, map, Option, Some, None, IfSome, Err, if◌then◌else◌}
+use Rattle.std.proofs.Common.{◌≡◌, ◌↔◌, ◌∙◌, ap, sym, refl, subst, ℕ, suc, ◌+◌, Bool, true, false, true≢false, not, nat_le, is_some, is_none, List, map, Option, Some, None, IfSome, Err, arith, if◌then◌else◌}
 use Rattle.std.proofs.Math.ListN.{length-map}
+use Rattle.std.proofs.lemmas.Bool.{le-leb}
 use Rattle.host_lines.specs.State.{LineState}
 use Rattle.telnet_lines.specs.Line.{LineOf}
 use Rattle.telnet_lines.specs.Joined.{seen_line}
@@ -15,7 +16,7 @@ use Rattle.command_session.specs.declared.terminal.LineRow.{LineRow}
 use Rattle.command_session.specs.declared.fault.CommandFault.{CommandFault}
 use Rattle.command_session.specs.declared.fault.CommandFault.TheVariants.{NoSuchName, NotAttached, AlreadyAttached, OutOfRange, PortTaken}
 use Rattle.command_session.specs.Reply.{Answer}
-use Rattle.command_session.specs.LineEffects.{is_terminal_kind, is_terminal, row_for, first_place, has_row, row_port, are_ports, attach_fault, detach_fault}
+use Rattle.command_session.specs.LineEffects.{is_terminal_kind, is_terminal, row_for, has_row, row_port, are_ports, attach_fault, detach_fault}
 use Rattle.host_commands.specs.HostEffect.{missing_by}
 
 -- ---- by the tests: whether the row is there, and has a port, and of ATTACH whether its ports are such, and a line has one
@@ -67,6 +68,18 @@ module _ {P : Type 0} (row : LineRow) (port : ℕ) (lines : List (LineOf P)) whe
       by true false true true = taken
       by true false true false = tt
 
+  -- the same of a row that is there
+  pub attach-there : has_row row lines ≡ true → (Is : CommandFault → Type 0) → Is AlreadyAttached → Is OutOfRange → Is PortTaken → IfSome (attach_fault row port lines) Is
+  attach-there there Is attached range taken =
+      subst (λ (o : Option CommandFault). IfSome o Is) (attach-is true (is_some (row_port row lines)) (are_ports port row.count) (are_taken row.count port lines) there refl refl refl)
+      (by (is_some (row_port row lines)) (are_ports port row.count) (are_taken row.count port lines))
+    where
+      by : (b c d : Bool) → IfSome (attach_by true b c d) Is
+      by true c d = attached
+      by false false d = range
+      by false true true = taken
+      by false true false = tt
+
   -- where there is none, the row is there, the ports are such, and no line has one of them
   pub attach-asks : attach_fault row port lines ≡ None → (has_row row lines ≡ true) × (are_ports port row.count ≡ true) × (are_taken row.count port lines ≡ false)
   attach-asks none = by (has_row row lines) (is_some (row_port row lines)) (are_ports port row.count) (are_taken row.count port lines) (sym attach-tests ∙ none)
@@ -114,6 +127,14 @@ module _ {P : Type 0} (row : LineRow) (lines : List (LineOf P)) where
       by true true = free
       by true false = tt
 
+  pub detach-there : has_row row lines ≡ true → (Is : CommandFault → Type 0) → Is NotAttached → IfSome (detach_fault row lines) Is
+  detach-there there Is free =
+      subst (λ (o : Option CommandFault). IfSome o Is) (detach-by (is_none (row_port row lines)) there refl) (by (is_none (row_port row lines)))
+    where
+      by : (b : Bool) → IfSome (if b then Some NotAttached else None) Is
+      by true = free
+      by false = tt
+
   detach-missing : (detach_fault row lines ≡ Some NoSuchName) ↔ (has_row row lines ≡ false)
   detach-missing = by (has_row row lines) (is_none (row_port row lines)) detach-tests
     where
@@ -137,10 +158,10 @@ not-not false = refl
 
 module _ (s : LineState) (row : LineRow) (lines : List (LineOf ℕ)) where
   seen-there : has_row row (map (seen_line s) lines) ≡ has_row row lines
-  seen-there = ap (nat_le (first_place row + row.count)) (length-map lines (seen_line s))
+  seen-there = ap (nat_le (row.place + row.count)) (length-map lines (seen_line s))
 
   seen-own : row_port row (map (seen_line s) lines) ≡ row_port row lines
-  seen-own = seen-first s row.count (first_place row) lines
+  seen-own = seen-first s row.count row.place lines
 
   pub attach-seen : (port : ℕ) → attach_fault row port (map (seen_line s) lines) ≡ attach_fault row port lines
   attach-seen port =
@@ -154,13 +175,17 @@ module _ (s : LineState) (row : LineRow) (lines : List (LineOf ℕ)) where
 -- ---- by the units
 
 -- the lines of the multiplexer are there just where the machine has one
-pub multiplexer-there : (units : List UnitState) → (nat_le 65 (line_count units) ≡ false) ↔ (has_multiplexer units ≡ false)
+pub multiplexer-there : (units : List UnitState) → (nat_le 66 (suc (line_count units)) ≡ false) ↔ (has_multiplexer units ≡ false)
 multiplexer-there units = by (has_multiplexer units) (has_terminal units)
   where
-    by : (a b : Bool) → (nat_le 65 (if a then 65 else if b then 1 else 0) ≡ false) ↔ (a ≡ false)
+    by : (a b : Bool) → (nat_le 66 (suc (if a then 65 else if b then 1 else 0)) ≡ false) ↔ (a ≡ false)
     by true b = (λ same. same, λ same. same)
     by false true = (λ same. refl, λ same. refl)
     by false false = (λ same. refl, λ same. refl)
+
+-- the console line is there, whatever units a machine has
+pub console-there : (units : List UnitState) → nat_le 1 (suc (line_count units)) ≡ true
+console-there units = le-leb 1 (suc (line_count units)) (omega arith)
 
 -- what holds of the multiplexer alone
 pub missing-of : (kind : Kind) (answer : Answer) (units : List UnitState) → (kind ≡ Qty → (answer ≡ Err NoSuchName) ↔ (has_multiplexer units ≡ false)) → missing_by kind answer units
@@ -176,10 +201,10 @@ not-missing unit answer units other = by unit.kind other
 
 -- so `No such name` comes of it
 module _ (row : LineRow) (kind : Kind) (units : List UnitState) (lines : List (LineOf ℕ)) (own : row ≡ row_for kind)
-    (there : has_row row lines ≡ nat_le (row.number + row.count) (line_count units)) (is : kind ≡ Qty) where
+    (there : has_row row lines ≡ nat_le (row.place + row.count) (suc (line_count units))) (is : kind ≡ Qty) where
   row-missing : (has_row row lines ≡ false) ↔ (has_multiplexer units ≡ false)
   row-missing =
-      let same : has_row row lines ≡ nat_le 65 (line_count units) = there ∙ (λ i. nat_le ((own i).number + (own i).count) (line_count units)) ∙ (λ i. nat_le ((row_for (is i)).number + (row_for (is i)).count) (line_count units)) in
+      let same : has_row row lines ≡ nat_le 66 (suc (line_count units)) = there ∙ (λ i. nat_le ((own i).place + (own i).count) (suc (line_count units))) ∙ (λ i. nat_le ((row_for (is i)).place + (row_for (is i)).count) (suc (line_count units))) in
       let both = multiplexer-there units in
       (λ none. both.0 (sym same ∙ none), λ none. same ∙ both.1 none)
 

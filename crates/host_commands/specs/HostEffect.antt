@@ -8,17 +8,17 @@ use Rattle.unit_trait.specs.declared.kind.Kind.{Kind}
 use Rattle.unit_trait.specs.declared.kind.Kind.TheVariants.{Qty}
 use Rattle.file_commands.specs.Notes.{CommandNote}
 use Rattle.nova_machine.specs.Machine.{has_multiplexer}
-use Rattle.scp_parser.specs.Command.{Request, Attach, AttachPort, Detach, Disconnect, Do, Exit, Load, Dump}
+use Rattle.scp_parser.specs.Command.{Request, Attach, AttachPort, Detach, Disconnect, SetConsole, Do, Exit, Load, Dump}
 use Rattle.command_session.specs.declared.next.Next.TheVariants.{Ran}
 use Rattle.command_session.specs.declared.fault.CommandFault.TheVariants.{NoSuchName, Console}
 use Rattle.command_session.specs.Live.{Live, CommandState}
 use Rattle.command_session.specs.Reply.{Answer, Reply, goes}
 use Rattle.command_session.specs.FileEffects.{attach_reply, detach_one_or_all}
-use Rattle.command_session.specs.LineEffects.{attach_port_reply, disconnect_reply}
+use Rattle.command_session.specs.LineEffects.{attach_port_reply, disconnect_reply, set_console_reply}
 use Rattle.command_session.specs.ExitEffects.{exit_reply}
 use Rattle.command_session.specs.TapeEffects.{load_reply, dump_reply}
 use Rattle.command_session.specs.FileWorks.{AttachWorks, DoWorks, LoadWorks}
-use Rattle.command_session.specs.PortAnswers.{LinesStay, AttachesPort, DetachesUnit, Disconnects, ClosesAll}
+use Rattle.command_session.specs.PortAnswers.{LinesStay, AttachesPort, DetachesUnit, Disconnects, SetsConsole, ClosesAll}
 use Rattle.host_commands.specs.DoEffects.{do_reply}
 
 -- such a command, where these calls on files fail; of the others it is not said here
@@ -27,6 +27,7 @@ host_effect notes live (Attach option unit name) = attach_reply notes live optio
 host_effect notes live (AttachPort kind port) = attach_port_reply live kind port
 host_effect notes live (Detach unit) = detach_one_or_all notes live unit
 host_effect notes live (Disconnect kind) = disconnect_reply live
+host_effect notes live (SetConsole port) = set_console_reply live port
 host_effect notes live (Do echo strict name arguments) = do_reply notes live echo strict name
 host_effect notes live (Exit status) = exit_reply notes live status
 host_effect notes live (Load name) = load_reply notes live name
@@ -39,6 +40,7 @@ IsHosted (Attach option unit name) = Unit {0}
 IsHosted (AttachPort kind port) = Unit {0}
 IsHosted (Detach unit) = Unit {0}
 IsHosted (Disconnect kind) = Unit {0}
+IsHosted (SetConsole port) = Unit {0}
 IsHosted (Do echo strict name arguments) = Unit {0}
 IsHosted (Exit status) = Unit {0}
 IsHosted (Load name) = Unit {0}
@@ -74,5 +76,6 @@ abbrev pub HostLines : Bool → Request → Answer → LineState → List (LineO
 HostLines tells (AttachPort kind port) answer old before new after = AttachesPort tells kind port answer old before new after
 HostLines tells (Detach unit) answer old before new after = DetachesUnit unit answer old before new after
 HostLines tells (Disconnect kind) answer old before new after = Disconnects answer old before new after
+HostLines tells (SetConsole port) answer old before new after = SetsConsole tells port answer old before new after
 HostLines tells (Exit status) answer old before new after = ClosesAll answer old before new after
 HostLines tells request answer old before new after = LinesStay old before new after

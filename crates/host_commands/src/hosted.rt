@@ -23,7 +23,7 @@ ghost use Rattle.host_commands.specs.HostEffect.{host_effect, IsHosted, IsHostAn
 use crate::do_command::do_script;
 use crate::dump_command::dump_file;
 use crate::exit_command::exit;
-use crate::line_commands::{attach_port, disconnect};
+use crate::line_commands::{attach_port, disconnect, set_console};
 use crate::load_command::load_file;
 use crate::unit_commands::{attach, detach_one_or_every};
 use command_session::{CommandFault, Next, Session};
@@ -34,7 +34,7 @@ use std::alloc::Global;
 use unit_trait::Unit;
 
 /// Does a command that works on files and lines of the host: on the files of units, and on the ports of the lines of
-/// the second teletype and of the multiplexer. It prints nothing.
+/// the console, of the second teletype and of the multiplexer. It prints nothing.
 #[tactic(auto, using(file_commands::proofs::OwnFiles::unused))]
 pub fn obey_host<U: Unit, F: Files, L: Lines>(
     alloc: Global,
@@ -100,6 +100,7 @@ pub fn obey_host<U: Unit, F: Files, L: Lines>(
         Verb::AttachPort { kind, port } => attach_port(alloc, session, *kind, *port, lines),
         Verb::Detach(unit) => detach_one_or_every(session, *unit, files, lines),
         Verb::Disconnect(_) => disconnect(session, lines),
+        Verb::SetConsole(port) => set_console(alloc, session, *port, lines),
         Verb::Exit(status) => exit(session, *status, files, lines),
         Verb::Do { echo, strict, .. } => {
             do_script(alloc, session, *echo, *strict, command.file_name(), files)

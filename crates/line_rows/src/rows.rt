@@ -1,50 +1,65 @@
-// What the terminal lines of a row are.
-ghost use Rattle.std.specs.Prelude.{◌≡◌, ℕ, ◌+◌, ◌<◌, ◌≤◌, ◌^◌, nat_le, length, slice_get, None, IfSome};
+// What the lines of a row are. A line is named by its place: 0 is the console line, and the terminal lines stand behind
+// it.
+ghost use Rattle.std.specs.Prelude.{◌≡◌, ℕ, suc, ◌+◌, ◌<◌, ◌≤◌, ◌^◌, nat_le, nat_lt, length, slice_get};
+ghost use Rattle.std.specs.Prelude.{option_map, is_some, None, IfSome};
 ghost use Rattle.telnet_lines.specs.Line.{LineOf, unconnected};
 ghost use Rattle.terminal_ports.specs.Ports.{is_taken};
 ghost use Rattle.terminal_ports.specs.Rows.{port_at, first_port, AreFree, are_taken, is_connected, connected_in};
-ghost use Rattle.nova_machine.specs.Machine.{place_of, line_count};
+ghost use Rattle.nova_machine.specs.Machine.{line_count};
 
 use nova_machine::Machine;
+use telnet_lines::Line;
 use terminal_ports::owns;
 use unit_trait::Unit;
 
-/// Whether the terminal lines of a row are all there: so many, from the line with that number on. The machine's units
-/// say which lines it has.
-pub fn has_row<U: Unit>(machine: &Machine<U>, number: u8, count: u8) -> bool
-    requires some { 1 ≤ count }
-    requires numbers { number + count < 2 ^ 8 }
-    ensures lines { result ≡ nat_le (place_of number + count) (length machine.now.lines) }
-    ensures units { result ≡ nat_le (number + count) (line_count machine.now.units) }
+// The line at a place, where that is there.
+fn line_at<U: Unit>(machine: &Machine<U>, place: u8) -> Option<&Line>
+    ensures value { option_map (λ l. l.now) result ≡ slice_get machine.now.lines place }
+    ensures there { is_some result ≡ nat_lt place (suc (line_count machine.now.units)) }
 {
-    machine.line_at(number + (count - 1)).is_some()
+    if place == 0 {
+        Some(machine.console_at())
+    } else {
+        machine.line_at(place - 1)
+    }
+}
+
+/// Whether the lines of a row are all there: so many, from the line at that place on. The machine's units say which
+/// lines it has beside the console line.
+pub fn has_row<U: Unit>(machine: &Machine<U>, place: u8, count: u8) -> bool
+    requires some { 1 ≤ count }
+    requires places { place + count < 2 ^ 8 }
+    ensures lines { result ≡ nat_le (place + count) (length machine.now.lines) }
+    ensures units { result ≡ nat_le (place + count) (suc (line_count machine.now.units)) }
+{
+    line_at(machine, place + (count - 1)).is_some()
 }
 
 // ---- the ports that they have
 
 /// The port of the first line of a row that has one. Where none has, nobody is connected to any of them, and nothing
 /// waits.
-pub fn first_port<U: Unit>(machine: &Machine<U>, number: u8, count: u8) -> Option<u16>
-    requires numbers { number + count < 2 ^ 8 }
-    ensures port { result ≡ first_port count (place_of number) machine.now.lines }
-    ensures none { result ≡ None → AreFree count (place_of number) machine.now.lines }
+pub fn first_port<U: Unit>(machine: &Machine<U>, place: u8, count: u8) -> Option<u16>
+    requires places { place + count < 2 ^ 8 }
+    ensures port { result ≡ first_port count place machine.now.lines }
+    ensures none { result ≡ None → AreFree count place machine.now.lines }
 {
     if count == 0 {
         return None;
     }
-    match port_of(machine, number) {
+    match port_of(machine, place) {
         Some(port) => Some(port),
-        None => first_port(machine, number + 1, count - 1),
+        None => first_port(machine, place + 1, count - 1),
     }
 }
 
-// The port of a terminal line, where that is there and has one.
-fn port_of<U: Unit>(machine: &Machine<U>, number: u8) -> Option<u16>
-    ensures port { result ≡ port_at (slice_get machine.now.lines (place_of number)) }
+// The port of the line at a place, where that is there and has one.
+fn port_of<U: Unit>(machine: &Machine<U>, place: u8) -> Option<u16>
+    ensures port { result ≡ port_at (slice_get machine.now.lines place) }
     ensures none { result ≡ None
-        → IfSome (slice_get machine.now.lines (place_of number)) (λ (line : LineOf ℕ). line ≡ unconnected None) }
+        → IfSome (slice_get machine.now.lines place) (λ (line : LineOf ℕ). line ≡ unconnected None) }
 {
-    match machine.line_at(number) {
+    match line_at(machine, place) {
         Some(line) => line.port(),
         None => None,
     }
@@ -70,28 +85,28 @@ fn is_taken<U: Unit>(machine: &Machine<U>, port: u64) -> bool
 
 // ---- who is connected to them
 
-/// To how many terminal lines of a row somebody is connected.
-pub fn connected_in<U: Unit>(machine: &Machine<U>, number: u8, count: u8) -> u8
-    requires numbers { number + count < 2 ^ 8 }
-    ensures many { result ≡ connected_in count (place_of number) machine.now.lines }
+/// To how many lines of a row somebody is connected.
+pub fn connected_in<U: Unit>(machine: &Machine<U>, place: u8, count: u8) -> u8
+    requires places { place + count < 2 ^ 8 }
+    ensures many { result ≡ connected_in count place machine.now.lines }
     ensures most { result ≤ count }
 {
     if count == 0 {
         return 0;
     }
-    let others = connected_in(machine, number + 1, count - 1);
-    if is_connected(machine, number) {
+    let others = connected_in(machine, place + 1, count - 1);
+    if is_connected(machine, place) {
         others + 1
     } else {
         others
     }
 }
 
-// Whether somebody is connected to a terminal line.
-fn is_connected<U: Unit>(machine: &Machine<U>, number: u8) -> bool
-    ensures { result ≡ is_connected (slice_get machine.now.lines (place_of number)) }
+// Whether somebody is connected to the line at a place.
+fn is_connected<U: Unit>(machine: &Machine<U>, place: u8) -> bool
+    ensures { result ≡ is_connected (slice_get machine.now.lines place) }
 {
-    match machine.line_at(number) {
+    match line_at(machine, place) {
         Some(line) => line.connection().is_some(),
         None => false,
     }

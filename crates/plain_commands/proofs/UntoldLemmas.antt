@@ -1,5 +1,5 @@
 -- Of the commands that work on no file and no line: that they answer for no file, and which they are.
-use Rattle.std.proofs.Common.{◌≡◌, ℕ, Bool, true, false, List, [], ◌+◌, length, nat_le, nat_lt, not, ◌==◌, ◌&&◌, Option, Some, None, Result, Ok, Err, refl, ap, sym, subst, ◌∙◌, append-nil, if◌then◌else◌}
+use Rattle.std.proofs.Common.{◌≡◌, ℕ, Bool, true, false, List, [], codes, ◌+◌, length, nat_le, nat_lt, not, ◌==◌, ◌&&◌, Option, Some, None, Result, Ok, Err, refl, ap, sym, subst, ◌∙◌, append-nil, if◌then◌else◌}
 use Rattle.nova_memory.specs.Memory.{fits_size}
 use Rattle.nova_machine.specs.declared.machine.Stop.TheVariants.{FileFault}
 use Rattle.nova_machine.specs.Machine.{MachineState, attached_files, reset_devices, reset_machine}
@@ -26,7 +26,7 @@ use Rattle.expect_actions.specs.Watch.{WatchState}
 use Rattle.command_session.specs.Reply.{Answer, Reply, goes}
 use Rattle.command_session.specs.RunEffects.{reset_reply}
 use Rattle.plain_commands.specs.ListEffects.{lacks_device, examine_after, examine_reply, handed, deposit_after, deposit_reply}
-use Rattle.command_session.specs.LineEffects.{is_terminal, row_for, has_row, terminal_line, show_line, show_ports}
+use Rattle.command_session.specs.LineEffects.{is_terminal, row_for, has_row, terminal_line, console_line, show_line, show_ports}
 use Rattle.command_session.specs.FileEffects.{lacks_unit}
 use Rattle.command_session.specs.RunEffects.{last_address}
 use Rattle.command_session.specs.WatchEffects.{largest_count, text_of_quoted, lacks_room_for_break, can_be_expected}
@@ -121,6 +121,10 @@ deposit-no-file live l value = no-file-if (lacks_device live.machine l.device) _
     by-fault (Some list.ReadOnlyName) = tt
     by-fault (Some list.Console) = tt
 
+line-no-file : (name : List ℕ) (line : Option (LineOf Peer)) (live : Live) → IsOfNoFile (show_line name line live).answer
+line-no-file name None live = tt
+line-no-file name (Some line) live = tt
+
 pub show-no-file : (live : Live) (subject : Shown) → IsOfNoFile (show_reply live subject).answer
 unfolding show_reply
 show-no-file live shown.Time = tt
@@ -130,16 +134,13 @@ show-no-file live shown.Break = tt
 show-no-file live shown.Expect = tt
 show-no-file live shown.Send = tt
 show-no-file live shown.Version = tt
+show-no-file live shown.Console = line-no-file (codes "CONSOLE") (console_line live.lines) live
 show-no-file live (shown.Unit unit) =
     no-file-if (is_terminal unit) _ _ (by-ports unit.kind) (no-file-if (lacks_unit live.machine unit) _ _ tt tt)
   where
-    by-line : (line : Option (LineOf Peer)) → IsOfNoFile (show_line line live).answer
-    by-line None = tt
-    by-line (Some line) = tt
-
     by-ports : (kind : Kind) → IsOfNoFile (show_ports kind live).answer
     by-ports Qty = no-file-if (has_row (row_for Qty) live.lines) _ _ tt tt
-    by-ports kind = by-line (terminal_line live.lines)
+    by-ports kind = line-no-file (codes "TTI1") (terminal_line live.lines) live
 
 pub break-no-file : (live : Live) (at count : ℕ) (actions : List ℕ) → IsOfNoFile (break_reply live at count actions).answer
 unfolding break_reply
@@ -237,6 +238,8 @@ no-other line (verb.Dump from to name) untold o = absurd (cc untold.0)
 no-other line (verb.Save name) untold o = absurd (cc untold.0)
 no-other line (verb.Restore force name) untold o = absurd (cc untold.0)
 no-other line (verb.Disconnect kind) untold o = absurd (cc untold.0)
+no-other line (verb.SetConsole (Some port)) untold o = absurd (cc untold.0)
+no-other line (verb.SetConsole None) untold o = absurd (cc untold.0)
 no-other line (verb.Detach unit) untold o = absurd (cc untold.1)
 no-other line (verb.Exit status) untold o = absurd (cc untold.1)
 no-other line verb.Nothing untold o = absurd (o.nothing refl)

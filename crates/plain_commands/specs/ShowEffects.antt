@@ -5,12 +5,12 @@ use Rattle.unit_trait.specs.Kinds.{unit_name}
 use Rattle.event_queue.specs.EventList.{Event}
 use Rattle.nova_machine.specs.Machine.{MachineState}
 use Rattle.scp_parser.specs.declared.command.Shown.{Shown}
-use Rattle.scp_parser.specs.declared.command.Shown.TheVariants.{Time, Cpu, Queue, Break, Expect, Send, Version, Unit as AUnit}
+use Rattle.scp_parser.specs.declared.command.Shown.TheVariants.{Time, Cpu, Queue, Break, Expect, Send, Version, Console, Unit as AUnit}
 use Rattle.command_session.specs.declared.fault.CommandFault.TheVariants.{NoSuchName}
 use Rattle.command_session.specs.Live.{Live}
 use Rattle.command_session.specs.Reply.{Reply, says, refused}
 use Rattle.command_session.specs.FileEffects.{lacks_unit, unit_text}
-use Rattle.command_session.specs.LineEffects.{is_terminal, show_ports}
+use Rattle.command_session.specs.LineEffects.{is_terminal, show_ports, show_console}
 use Rattle.plain_commands.specs.WatchTexts.{breaks_text, expects_text, sends_text}
 
 -- what SHOW TIME prints
@@ -58,4 +58,5 @@ show_reply live Break = says (breaks_text live.watch.breaks.list) live
 show_reply live Expect = says (expects_text live.watch.expects.list) live
 show_reply live Send = says (sends_text live.watch.sends) live
 show_reply live Version = says version_text live
+show_reply live Console = show_console live
 show_reply live (AUnit unit) = show_unit live unit

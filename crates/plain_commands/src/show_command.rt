@@ -16,7 +16,7 @@ ghost use Rattle.command_session.specs.FileEffects.{attachment_text, unit_line};
 ghost use Rattle.plain_commands.specs.ShowEffects.{time_text, rule_text, cpu_text, version_text, event_line, queue_text, show_reply};
 ghost use Rattle.command_session.specs.Doing.{Does, ConsoleCounts, IsShown, IsExitAnswer};
 
-use crate::show_ports::show_ports;
+use crate::show_ports::{show_console, show_ports};
 use crate::show_watch::{put_breaks, put_expects, put_sends};
 use command_session::{
     CommandFault, Next, Session, is_terminal, lacks_unit, told_or_console, unit_name,
@@ -73,6 +73,7 @@ pub fn show<U: Unit, S: Sink>(
             let printed = put_sends(&session.watch.sends, out);
             told_or_console(printed, Next::Go)
         }
+        Shown::Console => show_console(&session.machine, out),
         Shown::Unit(unit) => show_unit(&session.machine, unit, out),
     }
 }

@@ -1,4 +1,5 @@
-// SHOW of the units whose lines have ports in place of a file: the second teletype and the multiplexer.
+// SHOW of the console line, and of the units whose lines have ports in place of a file: the second teletype and the
+// multiplexer.
 ghost use Rattle.std.specs.Prelude.{◌≡◌, ◌+◌, ◌≤◌, ◌++◌, ◌∷◌, ℕ, List, [], Some, IsTrue, codes, decimal};
 ghost use Rattle.fault_counts.specs.Faults.{CountsFault};
 ghost use Rattle.file_traits.specs.Streams.{Puts};
@@ -8,6 +9,7 @@ ghost use Rattle.host_lines.specs.Told.{Heard};
 ghost use Rattle.nova_machine.specs.Comes.{output};
 ghost use Rattle.command_session.specs.Live.{standing, Beyond};
 ghost use Rattle.command_session.specs.LineEffects.{terminal_line, line_text, show_line, ports_text, row_text, show_row, show_ports};
+ghost use Rattle.command_session.specs.LineEffects.{show_console};
 ghost use Rattle.command_session.specs.Doing.{Does, ConsoleCounts, IsShown, IsExitAnswer};
 
 use command_session::{CommandFault, LineRow, Next, TERMINAL, row_for, told_or_console};
@@ -39,10 +41,28 @@ pub fn show_ports<U: Unit, S: Sink>(
     }
 }
 
+/// SHOW of the console line prints its port, in decimal, and whether somebody is connected.
+pub fn show_console<U: Unit, S: Sink>(
+    machine: &Machine<U>,
+    out: &mut S,
+) -> Result<Next, CommandFault>
+    ensures told { (watch : WatchState) (keys : List (ℕ × ℕ)) (files : Beyond) (heard : Heard)
+        → Does (show_console (seen (beside watch keys files.files files.lines) files.whole machine.now)) result
+        (standing 0 (seen (beside watch keys files.files files.lines) files.whole machine.now)) S.tells
+        (output (S.written out.old) heard) (output (S.written out.new) heard) }
+    ensures counts { ConsoleCounts result (S.fault_count out.old) (S.fault_count out.new) }
+    ensures own { IsShown result }
+    ensures exit { IsExitAnswer result }
+{
+    let printed = put_line(b"CONSOLE", machine.console_at(), out);
+    told_or_console(printed, Next::Go)
+}
+
 // SHOW of the second teletype prints its port.
 fn show_terminal<U: Unit, S: Sink>(machine: &Machine<U>, out: &mut S) -> Result<Next, CommandFault>
     ensures told { (watch : WatchState) (keys : List (ℕ × ℕ)) (files : Beyond) (heard : Heard)
-        → Does (show_line (terminal_line (seen (beside watch keys files.files files.lines) files.whole machine.now).lines)
+        → Does (show_line (codes "TTI1")
+        (terminal_line (seen (beside watch keys files.files files.lines) files.whole machine.now).lines)
         (seen (beside watch keys files.files files.lines) files.whole machine.now)) result
         (standing 0 (seen (beside watch keys files.files files.lines) files.whole machine.now)) S.tells
         (output (S.written out.old) heard) (output (S.written out.new) heard) }
@@ -53,45 +73,46 @@ fn show_terminal<U: Unit, S: Sink>(machine: &Machine<U>, out: &mut S) -> Result<
     match machine.line_at(TERMINAL) {
         None => Err(CommandFault::NoSuchName),
         Some(line) => {
-            let printed = put_line(line, out);
+            let printed = put_line(b"TTI1", line, out);
             told_or_console(printed, Next::Go)
         }
     }
 }
 
-// Prints the text of a terminal line: its port, if it has one, in decimal, and whether somebody is connected.
-fn put_line<S: Sink>(line: &Line, out: &mut S) -> Result<(), Failed>
+// Prints the text of a line with that name: its port, if it has one, in decimal, and whether somebody is connected.
+fn put_line<S: Sink>(name: &[u8], line: &Line, out: &mut S) -> Result<(), Failed>
     ensures told { IsTrue S.tells
-        → Puts (S.written out.old) (line_text line.now) result (S.written out.new) }
+        → Puts (S.written out.old) (line_text name.now line.now) result (S.written out.new) }
     ensures counts { CountsFault (S.fault_count out.old) (S.fault_count out.new) result }
 {
     match (line.port(), line.connection()) {
-        (None, _) => put_unported(out),
-        (Some(port), None) => put_listening(port, out),
-        (Some(port), Some(_)) => put_connected(port, out),
+        (None, _) => put_unported(name, out),
+        (Some(port), None) => put_listening(name, port, out),
+        (Some(port), Some(_)) => put_connected(name, port, out),
     }
 }
 
 // Prints that there is no port.
-fn put_unported<S: Sink>(out: &mut S) -> Result<(), Failed>
+fn put_unported<S: Sink>(name: &[u8], out: &mut S) -> Result<(), Failed>
     ensures told { IsTrue S.tells
-        → Puts (S.written out.old) (codes "TTI1, not attached" ++ 10 ∷ []) result (S.written out.new) }
+        → Puts (S.written out.old) (name.now ++ (codes ", not attached" ++ 10 ∷ [])) result (S.written out.new) }
     ensures counts { CountsFault (S.fault_count out.old) (S.fault_count out.new) result }
 {
-    put_all(out, b"TTI1, not attached\n")
+    put_pieces(out, &[name, b", not attached\n"])
 }
 
 // Prints a port that is listened on.
-fn put_listening<S: Sink>(port: u16, out: &mut S) -> Result<(), Failed>
+fn put_listening<S: Sink>(name: &[u8], port: u16, out: &mut S) -> Result<(), Failed>
     ensures told { IsTrue S.tells → Puts (S.written out.old)
-        (codes "TTI1, listening on port " ++ decimal port ++ 10 ∷ []) result (S.written out.new) }
+        (name.now ++ (codes ", listening on port " ++ (decimal port ++ 10 ∷ []))) result (S.written out.new) }
     ensures counts { CountsFault (S.fault_count out.old) (S.fault_count out.new) result }
 {
     let mut buffer = Buffer::new();
     put_pieces(
         out,
         &[
-            b"TTI1, listening on port ",
+            name,
+            b", listening on port ",
             buffer.format(port).as_bytes(),
             b"\n",
         ],
@@ -99,9 +120,9 @@ fn put_listening<S: Sink>(port: u16, out: &mut S) -> Result<(), Failed>
 }
 
 // Prints a port to which somebody is connected.
-fn put_connected<S: Sink>(port: u16, out: &mut S) -> Result<(), Failed>
+fn put_connected<S: Sink>(name: &[u8], port: u16, out: &mut S) -> Result<(), Failed>
     ensures told { IsTrue S.tells → Puts (S.written out.old)
-        (codes "TTI1, listening on port " ++ decimal port ++ codes ", connected" ++ 10 ∷ []) result
+        (name.now ++ (codes ", listening on port " ++ (decimal port ++ codes ", connected\n"))) result
         (S.written out.new) }
     ensures counts { CountsFault (S.fault_count out.old) (S.fault_count out.new) result }
 {
@@ -109,7 +130,8 @@ fn put_connected<S: Sink>(port: u16, out: &mut S) -> Result<(), Failed>
     put_pieces(
         out,
         &[
-            b"TTI1, listening on port ",
+            name,
+            b", listening on port ",
             buffer.format(port).as_bytes(),
             b", connected\n",
         ],
@@ -123,7 +145,7 @@ fn show_row<U: Unit, S: Sink>(
     out: &mut S,
 ) -> Result<Next, CommandFault>
     requires some { 1 ≤ row.count }
-    requires last { row.number + row.count ≤ 65 }
+    requires last { row.place + row.count ≤ 66 }
     ensures told { (watch : WatchState) (keys : List (ℕ × ℕ)) (files : Beyond) (heard : Heard)
         → Does (show_row row (seen (beside watch keys files.files files.lines) files.whole machine.now)) result
         (standing 0 (seen (beside watch keys files.files files.lines) files.whole machine.now)) S.tells
@@ -132,7 +154,7 @@ fn show_row<U: Unit, S: Sink>(
     ensures own { IsShown result }
     ensures exit { IsExitAnswer result }
 {
-    if !has_row(machine, row.number, row.count) {
+    if !has_row(machine, row.place, row.count) {
         return Err(CommandFault::NoSuchName);
     }
     let printed = put_row(machine, row, out);
@@ -142,15 +164,15 @@ fn show_row<U: Unit, S: Sink>(
 // Prints the text of the multiplexer's lines.
 fn put_row<U: Unit, S: Sink>(machine: &Machine<U>, row: LineRow, out: &mut S) -> Result<(), Failed>
     requires some { 1 ≤ row.count }
-    requires last { row.number + row.count ≤ 65 }
+    requires last { row.place + row.count ≤ 66 }
     ensures told { IsTrue S.tells
         → Puts (S.written out.old) (row_text row machine.now.lines) result (S.written out.new) }
     ensures counts { CountsFault (S.fault_count out.old) (S.fault_count out.new) result }
 {
-    match first_port(machine, row.number, row.count) {
+    match first_port(machine, row.place, row.count) {
         None => put_no_row(out),
         Some(first) => {
-            let connected = connected_in(machine, row.number, row.count);
+            let connected = connected_in(machine, row.place, row.count);
             put_ports(first, row.count, connected, out)
         }
     }

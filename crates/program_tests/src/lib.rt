@@ -8,6 +8,8 @@ mod checked;
 #[cfg(test)]
 mod console;
 #[cfg(test)]
+mod console_line;
+#[cfg(test)]
 mod counted;
 #[cfg(test)]
 mod counted_ports;

@@ -1,8 +1,8 @@
 -- What the answers to commands say of terminal lines.
-use Rattle.std.proofs.Common.{◌≡◌, ℕ, Bool, List}
+use Rattle.std.proofs.Common.{◌≡◌, ℕ, Bool, List, Some, None}
 use Rattle.host_lines.specs.State.{LineState}
 use Rattle.telnet_lines.specs.Line.{LineOf}
-use Rattle.scp_parser.specs.Command.{Request, Run, Go, Cont, Step, AttachPort, Detach, Disconnect, Restore, Exit}
+use Rattle.scp_parser.specs.Command.{Request, Run, Go, Cont, Step, AttachPort, Detach, Disconnect, SetConsole, Restore, Exit}
 use Rattle.command_session.specs.Reply.{Answer}
 use Rattle.command_session.specs.Nature.{IsUntold}
 use Rattle.scp_commands.specs.LineAnswers.{LinesAnswer}
@@ -13,6 +13,8 @@ use Rattle.command_session.proofs.PortAnswerLemmas.{stays}
 pub untold-stays : (tells : Bool) (r : Request) (answer : Answer) (s : LineState) (before after : List (LineOf ℕ)) → IsUntold r → after ≡ before → LinesAnswer tells r answer s before s after
 untold-stays tells (AttachPort kind port) answer s before after untold same = absurd (cc untold.0)
 untold-stays tells (Disconnect kind) answer s before after untold same = absurd (cc untold.0)
+untold-stays tells (SetConsole (Some port)) answer s before after untold same = absurd (cc untold.0)
+untold-stays tells (SetConsole None) answer s before after untold same = absurd (cc untold.0)
 untold-stays tells (Detach unit) answer s before after untold same = absurd (cc untold.1)
 untold-stays tells (Restore force name) answer s before after untold same = absurd (cc untold.0)
 untold-stays tells (Exit status) answer s before after untold same = absurd (cc untold.1)

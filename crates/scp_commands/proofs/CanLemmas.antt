@@ -1,7 +1,7 @@
 -- What each command can answer.
 use Rattle.std.proofs.Common.{Some, None, Ok, Err, refl}
 use Rattle.nova_machine.specs.Machine.{MachineState}
-use Rattle.scp_parser.specs.Command.{Request, Run, Go as GoRequest, Cont, Step, Attach, AttachPort, Detach, Disconnect, Load, Dump, Save, Restore, Do as DoRequest, Exit as ExitRequest}
+use Rattle.scp_parser.specs.Command.{Request, Run, Go as GoRequest, Cont, Step, Attach, AttachPort, Detach, Disconnect, SetConsole, Load, Dump, Save, Restore, Do as DoRequest, Exit as ExitRequest}
 use Rattle.command_session.specs.declared.fault.CommandFault.TheVariants.{OutOfMemory}
 use Rattle.command_session.specs.declared.fault.CommandFault.TheVariants as fault
 use Rattle.command_session.specs.Nature.{IsUntold}
@@ -29,6 +29,8 @@ untold-can (Attach option unit name) a untold = absurd (cc untold.0)
 untold-can (AttachPort kind port) a untold = absurd (cc untold.0)
 untold-can (Detach unit) a untold = absurd (cc untold.1)
 untold-can (Disconnect kind) a untold = absurd (cc untold.0)
+untold-can (SetConsole (Some port)) a untold = absurd (cc untold.0)
+untold-can (SetConsole None) a untold = absurd (cc untold.0)
 untold-can (Run address) a untold = absurd (cc untold.0)
 untold-can (GoRequest address) a untold = absurd (cc untold.0)
 untold-can Cont a untold = absurd (cc untold.0)

@@ -1,6 +1,6 @@
 -- What holds of every command: it reads nothing, the status of an exit is small, and one that is refused has changed
 -- nothing but files.
-use Rattle.std.proofs.Common.{◌≡◌, inl, inr, ℕ, Bool, true, false, List, [], ◌∷◌, refl, sym, subst, ◌∙◌, drop, Option, Some, None, Result, Ok, Err, if◌then◌else◌, nat_le, nat_lt, not, ◌==◌, length, ◌+◌, ◌&&◌, ◌^◌, min, unwrap_or, arith, is_none}
+use Rattle.std.proofs.Common.{◌≡◌, inl, inr, ℕ, Bool, true, false, List, [], ◌∷◌, codes, refl, sym, subst, ◌∙◌, drop, Option, Some, None, Result, Ok, Err, if◌then◌else◌, nat_le, nat_lt, not, ◌==◌, length, ◌+◌, ◌&&◌, ◌^◌, min, unwrap_or, arith, is_none}
 use Rattle.std.proofs.lemmas.Bool.{leb-true}
 use Rattle.observations.specs.Observations.{Prints, reads_of, map_made}
 use Rattle.observations.proofs.MadeLemmas.{reads_of-append, reads_of-map}
@@ -55,8 +55,8 @@ use Rattle.unit_trait.specs.declared.kind.Kind.TheVariants.{Qty}
 use Rattle.host_lines.specs.Traffic.{Answer as LineAnswer, Peer, Replied, Quiet, Connected, Gave, HungUp, Failed, Took, Over}
 use Rattle.telnet_lines.specs.Line.{LineOf}
 use Rattle.command_session.specs.declared.terminal.LineRow.{LineRow}
-use Rattle.command_session.specs.LineEffects.{is_terminal, row_for, has_row, terminal_line, unless_refused, attach_fault, listen_answer, listen_lines, listen_with, attach_port_reply}
-use Rattle.command_session.specs.LineEffects.{detach_fault, with_port, detach_port_reply, disconnect_reply, show_line, show_ports}
+use Rattle.command_session.specs.LineEffects.{is_terminal, row_for, console_row, has_row, terminal_line, console_line, unless_refused, attach_fault, listen_answer, listen_lines, listen_with, attach_row, attach_port_reply}
+use Rattle.command_session.specs.LineEffects.{detach_fault, detach_row, with_port, detach_port_reply, disconnect_reply, set_console_reply, show_line, show_ports}
 use Rattle.plain_commands.specs.ShowEffects.{show_reply}
 use Rattle.command_session.specs.ExitEffects.{exit_reply}
 use Rattle.plain_commands.specs.SetEffects.{set_size_reply, set_autobit_reply}
@@ -281,19 +281,22 @@ fair-unless : {W : CommandFault → Type 0} (fault : Option CommandFault) (reply
 fair-unless None reply live fair = fair
 fair-unless (Some fault) reply live fair = fair-refused fault live
 
+fair-detach_row : {W : CommandFault → Type 0} (live : Live) (row : LineRow) → Fair false W live (detach_row row live)
+fair-detach_row live row = fair-unless (detach_fault row live.lines) _ live (fair-goes live _)
+
 fair-detach_port : {W : CommandFault → Type 0} (live : Live) (kind : Kind) → Fair false W live (detach_port_reply live kind)
 unfolding detach_port_reply
-fair-detach_port live kind = fair-unless (detach_fault (row_for kind) live.lines) _ live (fair-goes live _)
+fair-detach_port live kind = fair-detach_row live (row_for kind)
 
 fair-disconnect : {W : CommandFault → Type 0} (live : Live) → Fair false W live (disconnect_reply live)
 unfolding disconnect_reply
 fair-disconnect live = fair-with_port (terminal_line live.lines) live _
 
 -- a listening that failed leaves that it was made
-fair-listen_with : (kind : Kind) (row : LineRow) (port given : ℕ) (said : Replied) (live : Live) → Fair false (LeavesTraces (request.AttachPort kind given)) live (listen_with said row port live)
-fair-listen_with kind row port given said live = by said.answer
+fair-listen_with : (r : Request) (row : LineRow) (port : ℕ) (said : Replied) (live : Live) → Fair false (LeavesTraces r) live (listen_with said row port live)
+fair-listen_with r row port said live = by said.answer
   where
-    by : (answer : LineAnswer) → Fair false (LeavesTraces (request.AttachPort kind given)) live (record {
+    by : (answer : LineAnswer) → Fair false (LeavesTraces r) live (record {
       made = [];
       answer = listen_answer answer;
       after = standing 0 (record live { lines = listen_lines answer row port live.lines; ahead = said.ahead });
@@ -304,7 +307,7 @@ fair-listen_with kind row port given said live = by said.answer
       untouched = λ other h. record { machine = refl; watch = refl; keys = refl; lines = refl; text = refl };
       all = λ other h none.
           let same : PortFailed ≡ other = cc in
-          absurd (none (subst (λ (x : CommandFault). LeavesTraces (request.AttachPort kind given) x) same tt));
+          absurd (none (subst (λ (x : CommandFault). LeavesTraces r x) same tt));
     }
     by Quiet = record { reads = refl; exit = tt; untouched = λ other h. absurd (cc); all = λ other h none. absurd (cc) }
     by (Connected caller) = record { reads = refl; exit = tt; untouched = λ other h. absurd (cc); all = λ other h none. absurd (cc) }
@@ -313,11 +316,18 @@ fair-listen_with kind row port given said live = by said.answer
     by (Took count) = record { reads = refl; exit = tt; untouched = λ other h. absurd (cc); all = λ other h none. absurd (cc) }
     by Over = record { reads = refl; exit = tt; untouched = λ other h. absurd (cc); all = λ other h none. absurd (cc) }
 
+fair-attach_row : (r : Request) (live : Live) (row : LineRow) (port : ℕ) → Fair false (LeavesTraces r) live (attach_row row port live)
+fair-attach_row r live row port =
+    fair-unless (attach_fault row port live.lines) _ live (fair-listen_with r row port (listening_each (rising row.count port) live.ahead) live)
+
 fair-attach_port : (live : Live) (kind : Kind) (port : ℕ) → Fair false (LeavesTraces (request.AttachPort kind port)) live (attach_port_reply live kind port)
 unfolding attach_port_reply
-fair-attach_port live kind port =
-    let row = row_for kind in
-    fair-unless (attach_fault row port live.lines) _ live (fair-listen_with kind row port port (listening_each (rising row.count port) live.ahead) live)
+fair-attach_port live kind port = fair-attach_row (request.AttachPort kind port) live (row_for kind) port
+
+fair-set_console : (live : Live) (port : Option ℕ) → Fair false (LeavesTraces (request.SetConsole port)) live (set_console_reply live port)
+unfolding set_console_reply
+fair-set_console live (Some port) = fair-attach_row (request.SetConsole (Some port)) live console_row port
+fair-set_console live None = fair-detach_row live console_row
 
 fair-detach_where : (notes : List CommandNote) (live : Live) (unit : Option UnitName) → Fair false (LeavesTraces (request.Detach unit)) live (detach_one_or_all notes live unit)
 fair-detach_where notes live None = fair-detach_all None notes live
@@ -325,6 +335,10 @@ fair-detach_where notes live (Some unit) =
     fair-if (is_terminal unit) live _ _ (fair-detach_port live unit.kind) (fair-detach notes live unit)
 
 -- ---- SHOW and EXIT
+
+fair-line : {W : CommandFault → Type 0} (name : List ℕ) (line : Option (LineOf Peer)) (live : Live) → Fair false W live (show_line name line live)
+fair-line name None live = fair-refused _ live
+fair-line name (Some line) live = fair-says _ live live
 
 fair-show : {W : CommandFault → Type 0} (live : Live) (subject : Shown) → Fair false W live (show_reply live subject)
 unfolding show_reply
@@ -335,17 +349,14 @@ fair-show live shown.Break = fair-says _ live live
 fair-show live shown.Expect = fair-says _ live live
 fair-show live shown.Send = fair-says _ live live
 fair-show live shown.Version = fair-says _ live live
+fair-show live shown.Console = fair-line (codes "CONSOLE") (console_line live.lines) live
 fair-show live (shown.Unit unit) =
     fair-if (is_terminal unit) live _ _ (fair-ports unit.kind)
     (fair-if (lacks_unit live.machine unit) live _ _ (fair-refused _ live) (fair-says _ live live))
   where
-    fair-line : {W : CommandFault → Type 0} (line : Option (LineOf Peer)) → Fair false W live (show_line line live)
-    fair-line None = fair-refused _ live
-    fair-line (Some line) = fair-says _ live live
-
     fair-ports : {W : CommandFault → Type 0} (kind : Kind) → Fair false W live (show_ports kind live)
     fair-ports Qty = fair-if (has_row (row_for Qty) live.lines) live _ _ (fair-says _ live live) (fair-refused _ live)
-    fair-ports kind = fair-line (terminal_line live.lines)
+    fair-ports kind = fair-line (codes "TTI1") (terminal_line live.lines) live
 
 fair-exit : (notes : List CommandNote) (live : Live) (status : Option ℕ) → Fair false (LeavesTraces (request.Exit status)) live (exit_reply notes live status)
 unfolding exit_reply
@@ -620,6 +631,7 @@ fair-effect limit notes live (request.Detach unit) = fair-detach_where notes liv
 fair-effect limit notes live (request.SetSize k) = fair-set_size live k
 fair-effect limit notes live (request.SetAutobit before) = fair-set_autobit live before
 fair-effect limit notes live (request.Disconnect kind) = fair-disconnect live
+fair-effect limit notes live (request.SetConsole port) = fair-set_console live port
 fair-effect limit notes live (request.Show subject) = fair-show live subject
 fair-effect limit notes live (request.Do echo strict name arguments) = fair-do notes live echo strict name
 fair-effect limit notes live (request.Goto label) = fair-goto live

@@ -1,5 +1,5 @@
 -- What a command comes to, by what it asks for.
-use Rattle.std.proofs.Common.{◌≡◌, ◌≢◌, ℕ, ◌<◌, ◌&&◌, Bool, true, false, List, [], Option, Ok, Err, refl, ap, sym, ◌∙◌, subst, append-nil, arith}
+use Rattle.std.proofs.Common.{◌≡◌, ◌≢◌, ℕ, ◌<◌, ◌&&◌, Bool, true, false, List, [], Option, Some, None, Ok, Err, refl, ap, sym, ◌∙◌, subst, append-nil, arith}
 use Rattle.file_traits.specs.State.{FileState}
 use Rattle.unit_trait.specs.declared.kind.Kind.{Kind}
 use Rattle.unit_trait.specs.declared.kind.UnitName.{UnitName}
@@ -10,7 +10,7 @@ use Rattle.file_commands.proofs.Exact.{exact-none}
 use Rattle.scp_parser.specs.declared.command.Piece.{Piece}
 use Rattle.scp_parser.specs.declared.command.Verb.{Verb}
 use Rattle.scp_parser.specs.declared.command.Verb.TheVariants as verb
-use Rattle.scp_parser.specs.Command.{Request, Run, Go as GoRequest, Cont, Step, Break, Expect, Attach, AttachPort, Detach, Disconnect, Exit as ExitRequest, Do, Load, Dump, Save, Restore, request_of, file_name_of}
+use Rattle.scp_parser.specs.Command.{Request, Run, Go as GoRequest, Cont, Step, Break, Expect, Attach, AttachPort, Detach, Disconnect, SetConsole, Exit as ExitRequest, Do, Load, Dump, Save, Restore, request_of, file_name_of}
 use Rattle.nova_machine.specs.Comes.{Output}
 use Rattle.command_session.specs.declared.next.Next.TheVariants.{Ran}
 use Rattle.command_session.specs.declared.fault.CommandFault.TheVariants.{Console, OutOfMemory, PortFailed}
@@ -132,6 +132,8 @@ may-want spare (Break at count actions) few = tt
 may-want spare (Expect count text actions) few = tt
 may-want spare (Attach option unit name) few = tt
 may-want spare (AttachPort kind port) few = tt
+may-want spare (SetConsole (Some port)) few = tt
+may-want spare (SetConsole None) few = few
 may-want spare (Do echo strict name arguments) few = tt
 may-want spare (Load name) few = tt
 may-want spare (Dump from to name) few = tt
@@ -151,6 +153,7 @@ pub record IsNoRunOrHost (v : Verb) : Type 0 where
   pub attach_port : (kind : Kind) (port : ℕ) → v ≡ verb.AttachPort kind port → ⊥
   pub detach : (unit : Option UnitName) → v ≡ verb.Detach unit → ⊥
   pub disconnect : (kind : Kind) → v ≡ verb.Disconnect kind → ⊥
+  pub set_console : (port : Option ℕ) → v ≡ verb.SetConsole port → ⊥
   pub exit : (status : Option ℕ) → v ≡ verb.Exit status → ⊥
   pub do_ : (echo strict : Bool) (name arguments : Piece) → v ≡ verb.Do echo strict name arguments → ⊥
   pub load : (name : Piece) → v ≡ verb.Load name → ⊥
@@ -166,6 +169,7 @@ is-untold line (verb.Attach option unit name) s o = absurd (o.attach option unit
 is-untold line (verb.AttachPort kind port) s o = absurd (o.attach_port kind port refl)
 is-untold line (verb.Detach unit) s o = absurd (o.detach unit refl)
 is-untold line (verb.Disconnect kind) s o = absurd (o.disconnect kind refl)
+is-untold line (verb.SetConsole port) s o = absurd (o.set_console port refl)
 is-untold line (verb.Exit status) s o = absurd (o.exit status refl)
 is-untold line (verb.Do echo strict name arguments) s o = absurd (o.do_ echo strict name arguments refl)
 is-untold line (verb.Load name) s o = absurd (o.load name refl)
@@ -198,6 +202,7 @@ host-is limit notes live (Attach option unit name) hosted = refl
 host-is limit notes live (AttachPort kind port) hosted = refl
 host-is limit notes live (Detach unit) hosted = refl
 host-is limit notes live (Disconnect kind) hosted = refl
+host-is limit notes live (SetConsole port) hosted = refl
 host-is limit notes live (Do echo strict name arguments) hosted = refl
 host-is limit notes live (ExitRequest status) hosted = refl
 host-is limit notes live (Load name) hosted = refl
@@ -217,6 +222,8 @@ host-no-untold (Attach option unit name) hosted untold = absurd (cc untold.0)
 host-no-untold (AttachPort kind port) hosted untold = absurd (cc untold.0)
 host-no-untold (Detach unit) hosted untold = absurd (cc untold.1)
 host-no-untold (Disconnect kind) hosted untold = absurd (cc untold.0)
+host-no-untold (SetConsole (Some port)) hosted untold = absurd (cc untold.0)
+host-no-untold (SetConsole None) hosted untold = absurd (cc untold.0)
 host-no-untold (Do echo strict name arguments) hosted untold = absurd (cc untold.0)
 host-no-untold (ExitRequest status) hosted untold = absurd (cc untold.0)
 host-no-untold (Load name) hosted untold = absurd (cc untold.0)
@@ -235,6 +242,7 @@ run-told tells slots line_tells s lines r runs told = absurd runs
 
 pub run-no-listener : (r : Request) → IsRun r → IsNoListener r
 run-no-listener (AttachPort kind port) runs = absurd runs
+run-no-listener (SetConsole port) runs = absurd runs
 run-no-listener (Restore force name) runs = absurd runs
 run-no-listener r runs = tt
 
@@ -313,6 +321,8 @@ untold-is limit notes live (Attach option unit name) untold = absurd (cc untold.
 untold-is limit notes live (AttachPort kind port) untold = absurd (cc untold.0)
 untold-is limit notes live (Detach unit) untold = absurd (cc untold.1)
 untold-is limit notes live (Disconnect kind) untold = absurd (cc untold.0)
+untold-is limit notes live (SetConsole (Some port)) untold = absurd (cc untold.0)
+untold-is limit notes live (SetConsole None) untold = absurd (cc untold.0)
 untold-is limit notes live (Do echo strict name arguments) untold = absurd (cc untold.0)
 untold-is limit notes live (ExitRequest status) untold = absurd (cc untold.1)
 untold-is limit notes live (Load name) untold = absurd (cc untold.0)

@@ -1,7 +1,7 @@
 -- What each command does.
 use Rattle.std.specs.Prelude.{ℕ, List, Ok, Err}
 use Rattle.file_commands.specs.Notes.{CommandNote}
-use Rattle.scp_parser.specs.Command.{Request, Run, Go, Cont, Step, Attach, AttachPort, Detach, Disconnect, Do, Exit, Load, Dump, Save, Restore}
+use Rattle.scp_parser.specs.Command.{Request, Run, Go, Cont, Step, Attach, AttachPort, Detach, Disconnect, SetConsole, Do, Exit, Load, Dump, Save, Restore}
 use Rattle.command_session.specs.Live.{Live}
 use Rattle.command_session.specs.Reply.{Reply, refused}
 use Rattle.run_control.specs.RunEffect.{run_effect}
@@ -21,6 +21,7 @@ effect limit notes live (Attach option unit name) = host_effect notes live (Atta
 effect limit notes live (AttachPort kind port) = host_effect notes live (AttachPort kind port)
 effect limit notes live (Detach unit) = host_effect notes live (Detach unit)
 effect limit notes live (Disconnect kind) = host_effect notes live (Disconnect kind)
+effect limit notes live (SetConsole port) = host_effect notes live (SetConsole port)
 effect limit notes live (Do echo strict name arguments) = host_effect notes live (Do echo strict name arguments)
 effect limit notes live (Exit status) = host_effect notes live (Exit status)
 effect limit notes live (Load name) = host_effect notes live (Load name)

@@ -35,6 +35,7 @@ pub fn family_of(command: &Command) -> Family
         Verb::AttachPort { .. } => Family::Host,
         Verb::Detach(_) => Family::Host,
         Verb::Disconnect(_) => Family::Host,
+        Verb::SetConsole(_) => Family::Host,
         Verb::Exit(_) => Family::Host,
         Verb::Do { .. } => Family::Host,
         Verb::Load(_) => Family::Host,

@@ -3,18 +3,17 @@ use Rattle.std.specs.Prelude.{codes}
 use Rattle.std.proofs.Common.{◌≡◌, inl, inr, ℕ, ◌<◌, Bool, true, false, cond, Option, Some, None, List, [], ◌∷◌, length, refl, ap, sym, ◌∙◌, subst, arith, append-nil}
 use Rattle.std.specs.Option.{option_map}
 use Rattle.std.proofs.lemmas.Bool.{both_ways, false_from_ne_true}
-use Rattle.unit_trait.specs.declared.kind.Kind.TheVariants.{Tti1}
 use Rattle.line_text.specs.Words.{IsSpelled, is_spelled}
 use Rattle.line_text.proofs.SpellingLemmas.{spelled_is, is_spelled_so}
-use Rattle.operand_forms.specs.declared.listing.Name.{Name}
-use Rattle.operand_forms.specs.declared.listing.Name.TheVariants as whose
 use Rattle.operand_forms.specs.Forms.{IsOctal}
 use Rattle.operand_forms.specs.Operands.{octal}
 use Rattle.operand_forms.proofs.ChoiceLemmas.{chosen, same_some, mapped}
 use Rattle.operand_forms.proofs.NothingLemmas.{no_octal}
 use Rattle.operand_forms.proofs.NumberLemmas.{octal_found, octal_reads, number_starts}
 use Rattle.operand_forms.proofs.SpellingLemmas.{starts_digit, spelled_starts}
-use Rattle.scp_parser.specs.Forms.{IsFlag, IsSet, processor, terminal, IsNoBreak, all_breaks, one_break}
+use Rattle.scp_parser.specs.declared.settings.Settable.{Settable}
+use Rattle.scp_parser.specs.declared.settings.Settable.TheVariants as settable
+use Rattle.scp_parser.specs.Forms.{IsFlag, IsSet, processor, console_line, terminal, IsNoBreak, all_breaks, one_break}
 use Rattle.scp_parser.specs.Operands.{flag_of, set_of, no_break_of}
 
 -- flags
@@ -39,22 +38,25 @@ no_flag (b ∷ more) some = refl
 
 -- what SET sets
 
-set_choice : (text name : List ℕ) (what this : Name) (rest : Option Name) → (IsSpelled text name → IsSet text this)
+set_choice : (text name : List ℕ) (what this : Settable) (rest : Option Settable) → (IsSpelled text name → IsSet text this)
     → (rest ≡ Some what → IsSet text what) → cond (is_spelled text name) (Some this) rest ≡ Some what → IsSet text what
 set_choice text name what this rest here there h =
     elim (chosen (is_spelled text name) (Some this) rest (Some what) h) [
-      | inl first ↦ subst (λ (n : Name). IsSet text n) (same_some this what first.1) (here (spelled_is text name first.0))
+      | inl first ↦ subst (λ (s : Settable). IsSet text s) (same_some this what first.1) (here (spelled_is text name first.0))
       | inr second ↦ there second.1
     ]
 
-pub set_found : (text : List ℕ) (what : Name) → set_of text ≡ Some what → IsSet text what
+pub set_found : (text : List ℕ) (what : Settable) → set_of text ≡ Some what → IsSet text what
 unfolding set_of
 set_found text what =
-    set_choice text (codes "CPU") what whose.Cpu _ (processor text) (set_choice text (codes "TTI1") what (whose.Device Tti1) None (terminal text) (λ h. absurd (cc h)))
+    set_choice text (codes "CPU") what settable.Cpu _ (processor text)
+    (set_choice text (codes "CONSOLE") what settable.Console _ (console_line text)
+    (set_choice text (codes "TTI1") what settable.Tti1 None (terminal text) (λ h. absurd (cc h))))
 
-pub set_reads : (text : List ℕ) (what : Name) → IsSet text what → set_of text ≡ Some what
+pub set_reads : (text : List ℕ) (what : Settable) → IsSet text what → set_of text ≡ Some what
 unfolding set_of
 set_reads text what (processor _ h) = rw h refl
+set_reads text what (console_line _ h) = rw h refl
 set_reads text what (terminal _ h) = rw h refl
 
 pub no_set : set_of [] ≡ None

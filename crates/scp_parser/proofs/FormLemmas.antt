@@ -1,14 +1,15 @@
 -- The forms of words are decided by their functions.
 use Rattle.std.proofs.Common.{◌≡◌, ℕ, true, Option, List}
 use Rattle.scp_parser.specs.Names.{IsCommandName, command_named}
-use Rattle.scp_parser.specs.Forms.{IsSubject, IsSymbolic, IsOption, IsTarget, IsDetached, IsFlag, IsNoBreak, AreAddresses, IsSet, IsSetting, IsScriptName, IsAnyWord}
-use Rattle.scp_parser.specs.Operands.{subject_of, symbolic_of, option_of, target_of, detached_of, flag_of, no_break_of, addresses_of, set_of, setting_of, as_file_name, any_word}
+use Rattle.scp_parser.specs.Forms.{IsSubject, IsSymbolic, IsOption, IsTarget, IsDetached, IsFlag, IsNoBreak, AreAddresses, IsSet, IsSetting, IsConsole, IsScriptName, IsAnyWord}
+use Rattle.scp_parser.specs.Operands.{subject_of, symbolic_of, option_of, target_of, detached_of, flag_of, no_break_of, addresses_of, set_of, setting_of, console_of, as_file_name, any_word}
 use Rattle.operand_forms.proofs.Decides.{Decides}
 use Rattle.scp_parser.proofs.SubjectLemmas.{subject_found, subject_reads, symbolic_found, symbolic_reads}
 use Rattle.scp_parser.proofs.TargetLemmas.{option_found, option_reads, target_found, target_reads, detached_found, detached_reads}
 use Rattle.scp_parser.proofs.FlagLemmas.{flag_found, flag_reads, no_break_found, no_break_reads, set_found, set_reads}
 use Rattle.scp_parser.proofs.SizeLemmas.{addresses_found, addresses_read}
 use Rattle.scp_parser.proofs.AutobitLemmas.{setting_found, setting_reads}
+use Rattle.scp_parser.proofs.ConsoleLemmas.{console_found, console_reads}
 use Rattle.scp_parser.proofs.LabelLemmas.{script_found, script_reads, word_found, word_reads}
 use Rattle.scp_parser.proofs.CommandNameLemmas.{name_found, name_reads}
 
@@ -41,6 +42,9 @@ set_decides text what = (set_found text what, set_reads text what)
 
 pub setting_decides : Decides IsSetting setting_of
 setting_decides text what = (setting_found text what, setting_reads text what)
+
+pub console_decides : Decides IsConsole console_of
+console_decides text port = (console_found text port, console_reads text port)
 
 pub script_decides : Decides IsScriptName as_file_name
 script_decides text name = (script_found text name, script_reads text name)

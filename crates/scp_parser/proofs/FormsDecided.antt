@@ -3,9 +3,9 @@ use Rattle.std.proofs.Common.{ℕ, Option, List}
 use Rattle.operand_forms.specs.declared.listing.Name.{Name}
 use Rattle.scp_parser.specs.Names.{IsCommandName, command_named}
 use Rattle.operand_forms.specs.Forms.{IsOctal, IsDecimal, IsList, IsCondition, IsDevice}
-use Rattle.scp_parser.specs.Forms.{IsSubject, IsOption, IsTarget, IsDetached, IsFlag, IsNoBreak, AreAddresses, IsSet, IsSetting, IsScriptName, IsAnyWord}
+use Rattle.scp_parser.specs.Forms.{IsSubject, IsOption, IsTarget, IsDetached, IsFlag, IsNoBreak, AreAddresses, IsSet, IsSetting, IsConsole, IsScriptName, IsAnyWord}
 use Rattle.operand_forms.specs.Operands.{octal, decimal, items_of, condition_of, device_of}
-use Rattle.scp_parser.specs.Operands.{subject_of, symbolic_of, option_of, target_of, detached_of, flag_of, no_break_of, addresses_of, set_of, setting_of, as_file_name, any_word}
+use Rattle.scp_parser.specs.Operands.{subject_of, symbolic_of, option_of, target_of, detached_of, flag_of, no_break_of, addresses_of, set_of, setting_of, console_of, as_file_name, any_word}
 use Rattle.scp_parser.specs.Grammar.{IsSymbolicOption}
 use Rattle.operand_forms.proofs.Decides.{Decides}
 
@@ -25,6 +25,7 @@ pub record Forms_decided : Type 0 where
   pub addresses : Decides AreAddresses addresses_of
   pub set : Decides IsSet set_of
   pub setting : Decides IsSetting setting_of
+  pub console : Decides IsConsole console_of
   pub script : Decides IsScriptName as_file_name
   pub word : Decides IsAnyWord any_word
   pub command : Decides IsCommandName command_named

@@ -104,22 +104,22 @@ unit_of_keeps text u h =
     (λ alone. option_map_keeps IsNamedUnit unit_alone (kind_named unit_kinds text) u alone (λ kind is. kind_named_keeps text kind is))
     (λ drive. drive_of_keeps text u drive)
 
-one_of_seven : (a b c d e f g : Bool) (o : Option Shown) (s : Shown) →
-    cond a (Some shown.Time) (cond b (Some shown.Cpu) (cond c (Some shown.Queue) (cond d (Some shown.Break) (cond e (Some shown.Expect) (cond f (Some shown.Send) (cond g (Some shown.Version) o)))))) ≡ Some s → (o ≡ Some s → ShowsUnit s) → ShowsUnit s
-one_of_seven true b c d e f g o s h unit = subst ShowsUnit (same_Some shown.Time s h) tt
-one_of_seven false true c d e f g o s h unit = subst ShowsUnit (same_Some shown.Cpu s h) tt
-one_of_seven false false true d e f g o s h unit = subst ShowsUnit (same_Some shown.Queue s h) tt
-one_of_seven false false false true e f g o s h unit = subst ShowsUnit (same_Some shown.Break s h) tt
-one_of_seven false false false false true f g o s h unit = subst ShowsUnit (same_Some shown.Expect s h) tt
-one_of_seven false false false false false true g o s h unit = subst ShowsUnit (same_Some shown.Send s h) tt
-one_of_seven false false false false false false true o s h unit = subst ShowsUnit (same_Some shown.Version s h) tt
-one_of_seven false false false false false false false o s h unit = unit h
+named_or : (b : Bool) (x s : Shown) (o : Option Shown) → ShowsUnit x → (o ≡ Some s → ShowsUnit s) → cond b (Some x) o ≡ Some s → ShowsUnit s
+named_or true x s o shows other h = subst ShowsUnit (same_Some x s h) shows
+named_or false x s o shows other h = other h
 
 subject_of_keeps : (text : List ℕ) (s : Shown) → subject_of text ≡ Some s → ShowsUnit s
 unfolding subject_of
-subject_of_keeps text s h =
-    one_of_seven (is_spelled text (codes "TIME")) (is_spelled text (codes "CPU")) (is_spelled text (codes "QUEUE")) (is_spelled text (codes "BREAK")) (is_spelled text (codes "EXPECT")) (is_spelled text (codes "SEND")) (is_spelled text (codes "VERSION")) (option_map (λ u. shown.Unit u) (unit_of text)) s h
-    (λ later. option_map_keeps ShowsUnit (λ u. shown.Unit u) (unit_of text) s later (λ u is. unit_of_keeps text u is))
+subject_of_keeps text s =
+    named_or _ shown.Time s _ tt
+    (named_or _ shown.Cpu s _ tt
+    (named_or _ shown.Queue s _ tt
+    (named_or _ shown.Break s _ tt
+    (named_or _ shown.Expect s _ tt
+    (named_or _ shown.Send s _ tt
+    (named_or _ shown.Version s _ tt
+    (named_or _ shown.Console s _ tt
+    (λ later. option_map_keeps ShowsUnit (λ u. shown.Unit u) (unit_of text) s later (λ u is. unit_of_keeps text u is)))))))))
 
 numbered_keeps : (line : List ℕ) (make : Option ℕ → Verb) (number : Result (Option ℕ × List ℕ) ParseFault) (v : Verb) → ((n : Option ℕ) → Keeps line (make n)) → numbered make number ≡ Ok v → Keeps line v
 numbered_keeps line make number v holds h = bind_keeps (Keeps line) number (λ n. ended (make n.0) n.1) v h (λ n is last. ended_keeps (Keeps line) (make n.0) n.1 v last (holds n.0))

@@ -24,6 +24,7 @@ pub mod AttachLemmas
 pub mod TailLemmas
 mod MediaLemmas
 mod AutobitLemmas
+mod ConsoleLemmas
 mod SettingLemmas
 mod ScriptLemmas
 mod OperatesLemmas

@@ -7,10 +7,10 @@ use Rattle.unit_trait.specs.declared.kind.UnitName.{UnitName}
 use Rattle.unit_trait.specs.Kinds.{kind_name}
 use Rattle.unit_trait.proofs.EveryKind.{every-kind}
 use Rattle.scp_parser.specs.declared.command.Shown.{Shown}
-use Rattle.scp_parser.specs.declared.command.Shown.TheVariants.{Time, Cpu, Queue, Break, Expect, Send, Version, Unit as AUnit}
+use Rattle.scp_parser.specs.declared.command.Shown.TheVariants.{Time, Cpu, Queue, Break, Expect, Send, Version, Console, Unit as AUnit}
 use Rattle.line_text.specs.Words.{IsSpelled, is_spelled}
 use Rattle.operand_forms.specs.Forms.{IsUnit, alone, drive}
-use Rattle.scp_parser.specs.Forms.{IsSubject, time, cpu, queue, breaks, expects, sends, version, unit, IsSymbolic}
+use Rattle.scp_parser.specs.Forms.{IsSubject, time, cpu, queue, breaks, expects, sends, version, console, unit, IsSymbolic}
 use Rattle.operand_forms.specs.Operands.{unit_of}
 use Rattle.scp_parser.specs.Operands.{subject_of, symbolic_of}
 use Rattle.operand_forms.proofs.ChoiceLemmas.{chosen, same_some, mapped}
@@ -41,7 +41,8 @@ subject_found text shown =
     (subject_choice text shown _ _ _ (subject_named text (codes "BREAK") Break shown (breaks text))
     (subject_choice text shown _ _ _ (subject_named text (codes "EXPECT") Expect shown (expects text))
     (subject_choice text shown _ _ _ (subject_named text (codes "SEND") Send shown (sends text))
-    (subject_choice text shown _ _ _ (subject_named text (codes "VERSION") Version shown (version text)) (subject_unit text shown)))))))
+    (subject_choice text shown _ _ _ (subject_named text (codes "VERSION") Version shown (version text))
+    (subject_choice text shown _ _ _ (subject_named text (codes "CONSOLE") Console shown (console text)) (subject_unit text shown))))))))
 
 -- a unit's name is the name of no other subject
 kind_shown : (text : List ℕ) (kind : Kind) → IsSpelled text (kind_name kind) → subject_of text ≡ option_map (λ u. AUnit u) (unit_of text)
@@ -67,6 +68,7 @@ subject_reads text shown (breaks _ h) = rw h refl
 subject_reads text shown (expects _ h) = rw h refl
 subject_reads text shown (sends _ h) = rw h refl
 subject_reads text shown (version _ h) = rw h refl
+subject_reads text shown (console _ h) = rw h refl
 subject_reads text shown (unit _ u is) = unit_shown text u is ∙ ap (option_map (λ u. AUnit u)) (unit_reads text u is)
 
 -- the option for symbolic text

@@ -41,6 +41,7 @@ pub data Request : Type 0 where
   Restore : Bool → List ℕ → Request
   SetSize : ℕ → Request
   SetAutobit : Bool → Request
+  SetConsole : Option ℕ → Request
   Disconnect : Kind → Request
   Show : Shown → Request
   Do : Bool → Bool → List ℕ → List ℕ → Request
@@ -82,6 +83,7 @@ request_of line (verb.Dump from to name) = Dump from to (piece_of line name)
 request_of line (verb.Restore force name) = Restore force (piece_of line name)
 request_of line (verb.SetSize size) = SetSize size
 request_of line (verb.SetAutobit before) = SetAutobit before
+request_of line (verb.SetConsole port) = SetConsole port
 request_of line (verb.Disconnect kind) = Disconnect kind
 request_of line (verb.Show subject) = Show subject
 request_of line (verb.Do echo strict name arguments) = Do echo strict (piece_of line name) (piece_of line arguments)

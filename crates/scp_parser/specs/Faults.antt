@@ -6,8 +6,9 @@ use Rattle.line_text.specs.Words.{IsBlanks, StartsIn, Begins}
 use Rattle.nova_word.specs.Numbers.{is_digit}
 use Rattle.nova_symbols.specs.Forms.{Reads}
 use Rattle.operand_forms.specs.declared.listing.Name.{Name}
-use Rattle.operand_forms.specs.declared.listing.Name.TheVariants as whose
 use Rattle.operand_forms.specs.declared.listing.Condition.{Condition}
+use Rattle.scp_parser.specs.declared.settings.Settable.{Settable}
+use Rattle.scp_parser.specs.declared.settings.Settable.TheVariants as settable
 use Rattle.scp_parser.specs.declared.fault.ParseFault.{ParseFault}
 use Rattle.scp_parser.specs.declared.fault.ParseFault.TheVariants.{Unknown, Missing, BadNumber, BadName, BadSymbol, Extra, TooLong}
 use Rattle.scp_parser.specs.declared.names.CommandName.{CommandName}
@@ -17,7 +18,7 @@ use Rattle.scp_parser.specs.Names.{IsCommandName}
 use Rattle.scp_parser.specs.Command.{IsFileName}
 use Rattle.operand_forms.specs.Forms.{IsOctal, IsDecimal, IsList, IsDevice}
 use Rattle.scp_parser.specs.Forms.{IsSubject, IsOption, IsTarget, IsDetached, IsFlag, IsCount, IsPoint, IsNoBreak, IsKeyed, IsTextAt}
-use Rattle.scp_parser.specs.Forms.{AreAddresses, IsSet, IsSetting, IsScriptName, IsAnyWord, IsTest}
+use Rattle.scp_parser.specs.Forms.{AreAddresses, IsSet, IsSetting, IsConsole, IsScriptName, IsAnyWord, IsTest}
 use Rattle.scp_parser.specs.Grammar.{longest_line, name_of, BeginsAt, TakesAt, Chooses, IsListing, Then, Takes, MayTake, IsInside, AsksNothing}
 
 abbrev pub begins_with_digit : List ℕ → Bool
@@ -85,9 +86,10 @@ pub data ActionFaults (text : List ℕ) : ParseFault → Type 0 where
   no_mark : (past : List ℕ) → BeginsAt text past → StartsIn (λ b. b ≡ 59 → ⊥) past → ActionFaults text (Extra (length past))
 
 -- the faults behind what SET sets
-abbrev pub SetFaults : Name → List ℕ → ParseFault → Type 0
-SetFaults whose.Cpu text fault = FaultThen (WordFaults IsSetting false text) (Takes IsSetting text) (λ what. EndFaults what.1) fault
-SetFaults (whose.Device kind) text fault =
+abbrev pub SetFaults : Settable → List ℕ → ParseFault → Type 0
+SetFaults settable.Cpu text fault = FaultThen (WordFaults IsSetting false text) (Takes IsSetting text) (λ what. EndFaults what.1) fault
+SetFaults settable.Console text fault = FaultThen (WordFaults IsConsole false text) (Takes IsConsole text) (λ port. EndFaults port.1) fault
+SetFaults settable.Tti1 text fault =
     FaultThen (WordFaults (IsFlag (codes "DISCONNECT")) false text) (Takes (IsFlag (codes "DISCONNECT")) text) (λ d. EndFaults d.1) fault
 
 -- the faults of the operands of each command

@@ -1,16 +1,16 @@
 -- The forms of the words of a line that only some commands have: subjects, options, the units of ATTACH and DETACH, and
 -- the operands of the commands for scripts, breaks and media.
 use Rattle.std.specs.Prelude.{◌≡◌, ◌⊎◌, ℕ, ◌<◌, Bool, true, false, List, [], ◌∷◌, ◌++◌, length, codes, Option, Some, None}
-use Rattle.unit_trait.specs.declared.kind.Kind.TheVariants.{Tti1}
 use Rattle.unit_trait.specs.declared.kind.UnitName.{UnitName}
 use Rattle.unit_trait.specs.Kinds.{TakesFile}
 use Rattle.scp_parser.specs.declared.command.Shown.{Shown}
-use Rattle.scp_parser.specs.declared.command.Shown.TheVariants.{Time, Cpu, Queue, Break, Expect, Send, Version, Unit as AUnit}
+use Rattle.scp_parser.specs.declared.command.Shown.TheVariants.{Time, Cpu, Queue, Break, Expect, Send, Version, Console, Unit as AUnit}
 use Rattle.scp_parser.specs.declared.settings.Setting.{Setting}
 use Rattle.scp_parser.specs.declared.settings.Setting.TheVariants.{Size, Autobit}
+use Rattle.scp_parser.specs.declared.settings.Settable.{Settable}
+use Rattle.scp_parser.specs.declared.settings.Settable.TheVariants as settable
 use Rattle.line_text.specs.Words.{IsBlank, StartsIn, IsSpelled}
 use Rattle.operand_forms.specs.declared.listing.Name.{Name}
-use Rattle.operand_forms.specs.declared.listing.Name.TheVariants as whose
 use Rattle.operand_forms.specs.declared.listing.Item.{Item}
 use Rattle.operand_forms.specs.declared.listing.Condition.{Condition}
 use Rattle.operand_forms.specs.declared.listing.Rel.{Rel}
@@ -26,6 +26,7 @@ pub data IsSubject : List ℕ → Shown → Type 0 where
   expects : (text : List ℕ) → IsSpelled text (codes "EXPECT") → IsSubject text Expect
   sends : (text : List ℕ) → IsSpelled text (codes "SEND") → IsSubject text Send
   version : (text : List ℕ) → IsSpelled text (codes "VERSION") → IsSubject text Version
+  console : (text : List ℕ) → IsSpelled text (codes "CONSOLE") → IsSubject text Console
   unit : (text : List ℕ) (u : UnitName) → IsUnit text u → IsSubject text (AUnit u)
 
 -- the option for symbolic text
@@ -91,10 +92,11 @@ pub record IsTextAt (text : List ℕ) (x : List ℕ × List ℕ) : Type 0 where
 pub data AreAddresses : List ℕ → ℕ × ℕ → Type 0 where
   between : (from to : List ℕ) (a b : ℕ) → IsOctal from a → IsOctal to b → AreAddresses (from ++ 45 ∷ to) (a, b)
 
--- what SET sets: something of the processor, or of the second terminal
-pub data IsSet : List ℕ → Name → Type 0 where
-  processor : (text : List ℕ) → IsSpelled text (codes "CPU") → IsSet text whose.Cpu
-  terminal : (text : List ℕ) → IsSpelled text (codes "TTI1") → IsSet text (whose.Device Tti1)
+-- what SET sets: something of the processor, of the console line, or of the second terminal
+pub data IsSet : List ℕ → Settable → Type 0 where
+  processor : (text : List ℕ) → IsSpelled text (codes "CPU") → IsSet text settable.Cpu
+  console_line : (text : List ℕ) → IsSpelled text (codes "CONSOLE") → IsSet text settable.Console
+  terminal : (text : List ℕ) → IsSpelled text (codes "TTI1") → IsSet text settable.Tti1
 
 -- a size of memory in K words
 pub data IsSize : List ℕ → ℕ → Type 0 where
@@ -105,6 +107,11 @@ pub data IsSetting : List ℕ → Setting → Type 0 where
   memory_size : (text : List ℕ) (n : ℕ) → IsSize text n → IsSetting text (Size n)
   before_change : (text : List ℕ) → IsSpelled text (codes "AUTOBIT=BEFORE") → IsSetting text (Autobit true)
   after_change : (text : List ℕ) → IsSpelled text (codes "AUTOBIT=AFTER") → IsSetting text (Autobit false)
+
+-- what is set of the console line: its port, or that it has none
+pub data IsConsole : List ℕ → Option ℕ → Type 0 where
+  telnet : (text : List ℕ) (port : ℕ) → IsKeyed (codes "TELNET=") text port → IsConsole text (Some port)
+  no_telnet : (text : List ℕ) → IsSpelled text (codes "NOTELNET") → IsConsole text None
 
 -- the name of a script is one word
 abbrev pub IsScriptName : List ℕ → List ℕ → Type 0

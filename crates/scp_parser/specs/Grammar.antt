@@ -14,6 +14,8 @@ use Rattle.operand_forms.specs.declared.listing.Listing.{Listing}
 use Rattle.operand_forms.specs.declared.listing.Test.{Test}
 use Rattle.scp_parser.specs.declared.settings.Setting.{Setting}
 use Rattle.scp_parser.specs.declared.settings.Setting.TheVariants.{Size, Autobit}
+use Rattle.scp_parser.specs.declared.settings.Settable.{Settable}
+use Rattle.scp_parser.specs.declared.settings.Settable.TheVariants as settable
 use Rattle.scp_parser.specs.declared.names.CommandName.{CommandName}
 use Rattle.scp_parser.specs.declared.names.CommandName.TheVariants.{Alone, Examine, Deposit, Run, Go, Step, Attach, Detach, Show, Exit}
 use Rattle.scp_parser.specs.declared.names.CommandName.TheVariants.{Break, NoBreak, Expect, Send, Load, Save, Dump, Restore, Set, Do, Goto, Assert, Echo}
@@ -22,7 +24,7 @@ use Rattle.scp_parser.specs.Command as request
 use Rattle.scp_parser.specs.Names.{IsCommandName, alone_request}
 use Rattle.operand_forms.specs.Forms.{IsOctal, IsDecimal, IsList, IsCondition, IsDevice}
 use Rattle.scp_parser.specs.Forms.{IsSubject, IsSymbolic, IsOption, IsTarget, IsDetached, IsFlag, IsCount, IsPoint, IsNoBreak, IsKeyed, IsTextAt}
-use Rattle.scp_parser.specs.Forms.{AreAddresses, IsSet, IsSetting, IsScriptName, IsAnyWord, IsTest}
+use Rattle.scp_parser.specs.Forms.{AreAddresses, IsSet, IsSetting, IsConsole, IsScriptName, IsAnyWord, IsTest}
 
 -- how many bytes a command line has at most
 abbrev pub longest_line : ℕ
@@ -168,10 +170,12 @@ abbrev pub setting : Setting → Request
 setting (Size n) = request.SetSize n
 setting (Autobit before) = request.SetAutobit before
 
--- what follows what SET sets: what is set of the processor, or that the second terminal is disconnected
-abbrev pub Sets : Name → List ℕ → Request → Type 0
-Sets whose.Cpu text asked = Then (Takes IsSetting text) (λ what. Ends (setting what.0) what.1) asked
-Sets (whose.Device kind) text asked = Then (Takes (IsFlag (codes "DISCONNECT")) text) (λ d. Ends (request.Disconnect Tti1) d.1) asked
+-- what follows what SET sets: what is set of the processor, the port of the console line, or that the second terminal is
+-- disconnected
+abbrev pub Sets : Settable → List ℕ → Request → Type 0
+Sets settable.Cpu text asked = Then (Takes IsSetting text) (λ what. Ends (setting what.0) what.1) asked
+Sets settable.Console text asked = Then (Takes IsConsole text) (λ port. Ends (request.SetConsole port.0) port.1) asked
+Sets settable.Tti1 text asked = Then (Takes (IsFlag (codes "DISCONNECT")) text) (λ d. Ends (request.Disconnect Tti1) d.1) asked
 
 -- the name of a script behind the options of DO, and its arguments
 abbrev pub Scripts : Option Bool → Option Bool → List ℕ → Request → Type 0

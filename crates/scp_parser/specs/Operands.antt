@@ -5,14 +5,14 @@ use Rattle.std.specs.Str.{is_utf8}
 use Rattle.unit_trait.specs.declared.kind.UnitName.{UnitName}
 use Rattle.unit_trait.specs.Kinds.{takes_file}
 use Rattle.scp_parser.specs.declared.command.Shown.{Shown}
-use Rattle.scp_parser.specs.declared.command.Shown.TheVariants.{Time, Cpu, Queue, Break, Expect, Send, Version, Unit as AUnit}
+use Rattle.scp_parser.specs.declared.command.Shown.TheVariants.{Time, Cpu, Queue, Break, Expect, Send, Version, Console, Unit as AUnit}
 use Rattle.scp_parser.specs.declared.settings.Setting.{Setting}
 use Rattle.scp_parser.specs.declared.settings.Setting.TheVariants.{Size, Autobit}
+use Rattle.scp_parser.specs.declared.settings.Settable.{Settable}
+use Rattle.scp_parser.specs.declared.settings.Settable.TheVariants as settable
 use Rattle.line_text.specs.Words.{is_spelled, is_blank}
 use Rattle.nova_word.specs.Quoted.{quoted_read}
-use Rattle.unit_trait.specs.declared.kind.Kind.TheVariants.{Tti1}
 use Rattle.operand_forms.specs.declared.listing.Name.{Name}
-use Rattle.operand_forms.specs.declared.listing.Name.TheVariants as whose
 use Rattle.operand_forms.specs.declared.listing.Item.{Item}
 use Rattle.operand_forms.specs.declared.listing.Item.TheVariants.{At, Reg, Unknown}
 use Rattle.operand_forms.specs.declared.listing.Condition.{Condition}
@@ -27,6 +27,7 @@ subject_of text =
     else if is_spelled text (codes "EXPECT") then Some Expect
     else if is_spelled text (codes "SEND") then Some Send
     else if is_spelled text (codes "VERSION") then Some Version
+    else if is_spelled text (codes "CONSOLE") then Some Console
     else option_map (λ u. AUnit u) (unit_of text)
 
 unfoldable pub symbolic_of : List ℕ → Option Bool
@@ -110,9 +111,12 @@ text_at text = option_and_then (λ (quoted : List ℕ × List ℕ). quoted_befor
 unfoldable pub addresses_of : List ℕ → Option (ℕ × ℕ)
 addresses_of text = both (λ a b. (a, b)) (octal (front 45 text)) (octal (behind 45 text))
 
-unfoldable pub set_of : List ℕ → Option Name
+unfoldable pub set_of : List ℕ → Option Settable
 set_of text =
-    if is_spelled text (codes "CPU") then Some whose.Cpu else if is_spelled text (codes "TTI1") then Some (whose.Device Tti1) else None
+    if is_spelled text (codes "CPU") then Some settable.Cpu
+    else if is_spelled text (codes "CONSOLE") then Some settable.Console
+    else if is_spelled text (codes "TTI1") then Some settable.Tti1
+    else None
 
 unfoldable pub size_of : List ℕ → Option ℕ
 size_of text = if ends_with (λ b. b == 75 || b == 107) text then decimal (all_but_last text) else None
@@ -122,6 +126,11 @@ setting_of text =
     if is_spelled text (codes "AUTOBIT=BEFORE") then Some (Autobit true)
     else if is_spelled text (codes "AUTOBIT=AFTER") then Some (Autobit false)
     else option_map (λ n. Size n) (size_of text)
+
+unfoldable pub console_of : List ℕ → Option (Option ℕ)
+console_of text =
+    if is_spelled text (codes "NOTELNET") then Some None
+    else option_map (λ port. Some port) (keyed_of (codes "TELNET=") text)
 
 unfoldable pub any_word : List ℕ → Option (List ℕ)
 any_word [] = None

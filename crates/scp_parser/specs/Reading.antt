@@ -9,7 +9,6 @@ use Rattle.line_text.specs.Words.{past_blanks, word_at, trimmed}
 use Rattle.nova_symbols.specs.declared.fault.SymbolFault.{SymbolFault}
 use Rattle.nova_symbols.specs.Reading as symbols
 use Rattle.operand_forms.specs.declared.listing.Name.{Name}
-use Rattle.operand_forms.specs.declared.listing.Name.TheVariants as whose
 use Rattle.operand_forms.specs.declared.listing.Condition.{Condition}
 use Rattle.operand_forms.specs.declared.listing.Item.{Item}
 use Rattle.operand_forms.specs.declared.listing.Listing.{Listing}
@@ -18,6 +17,8 @@ use Rattle.scp_parser.specs.declared.command.Verb.{Verb}
 use Rattle.scp_parser.specs.declared.command.Verb.TheVariants as verb
 use Rattle.scp_parser.specs.declared.settings.Setting.{Setting}
 use Rattle.scp_parser.specs.declared.settings.Setting.TheVariants.{Size, Autobit}
+use Rattle.scp_parser.specs.declared.settings.Settable.{Settable}
+use Rattle.scp_parser.specs.declared.settings.Settable.TheVariants as settable
 use Rattle.scp_parser.specs.declared.fault.ParseFault.{ParseFault}
 use Rattle.scp_parser.specs.declared.fault.ParseFault.TheVariants.{Unknown, Missing, BadSymbol, Extra, TooLong}
 use Rattle.scp_parser.specs.declared.names.CommandName.{CommandName}
@@ -27,7 +28,7 @@ use Rattle.scp_parser.specs.Command.{Request, request_of}
 use Rattle.scp_parser.specs.Names.{command_named, alone_verb}
 use Rattle.operand_forms.specs.Operands.{octal, decimal, items_of, condition_of, device_of}
 use Rattle.scp_parser.specs.Operands.{subject_of, symbolic_of, option_of, target_of, detached_of, as_file_name, flag_of, count_of, point_of, no_break_of, keyed_of, text_at}
-use Rattle.scp_parser.specs.Operands.{addresses_of, set_of, setting_of, any_word, test_of}
+use Rattle.scp_parser.specs.Operands.{addresses_of, set_of, setting_of, console_of, any_word, test_of}
 use Rattle.scp_parser.specs.Grammar.{longest_line, name_of, option_letter, test_with}
 use Rattle.scp_parser.specs.Faults.{bad_word, placed}
 
@@ -231,9 +232,10 @@ abbrev pub verb_of_setting : Setting → Verb
 verb_of_setting (Size n) = verb.SetSize n
 verb_of_setting (Autobit before) = verb.SetAutobit before
 
-abbrev pub set_what : Name × List ℕ → Result Verb ParseFault
-set_what (whose.Cpu, text) = needed false setting_of text >>= (λ what. ended (verb_of_setting what.0) what.1)
-set_what (whose.Device kind, text) = needed false (flag_of (codes "DISCONNECT")) text >>= (λ d. ended (verb.Disconnect Tti1) d.1)
+abbrev pub set_what : Settable × List ℕ → Result Verb ParseFault
+set_what (settable.Cpu, text) = needed false setting_of text >>= (λ what. ended (verb_of_setting what.0) what.1)
+set_what (settable.Console, text) = needed false console_of text >>= (λ port. ended (verb.SetConsole port.0) port.1)
+set_what (settable.Tti1, text) = needed false (flag_of (codes "DISCONNECT")) text >>= (λ d. ended (verb.Disconnect Tti1) d.1)
 
 unfoldable pub set : List ℕ → Result Verb ParseFault
 set text = needed false set_of text >>= set_what

@@ -29,6 +29,7 @@ pub enum Shown {
     Expect,
     Send,
     Version,
+    Console,
     Unit(UnitName),
 }
 
@@ -92,6 +93,8 @@ pub enum Verb {
     SetSize(u64),
     /// `SET CPU AUTOBIT=BEFORE`, which is true, or `SET CPU AUTOBIT=AFTER`.
     SetAutobit(bool),
+    /// The port of `SET CONSOLE TELNET=port`, or `None` for `SET CONSOLE NOTELNET`.
+    SetConsole(Option<u64>),
     Disconnect(Kind),
     Show(Shown),
     Do {

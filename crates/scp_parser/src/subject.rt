@@ -31,6 +31,9 @@ pub fn subject_of(word: &[u8]) -> Option<Shown>
     if is_spelled(word, b"VERSION") {
         return Some(Shown::Version);
     }
+    if is_spelled(word, b"CONSOLE") {
+        return Some(Shown::Console);
+    }
     match unit_of(word) {
         Some(unit) => Some(Shown::Unit(unit)),
         None => None,

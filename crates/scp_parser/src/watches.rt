@@ -159,7 +159,7 @@ fn maybe_count(text: &[u8]) -> (Option<u64>, &[u8])
 
 // A number behind a keyword and its `=`.
 #[tactic(auto, unfolding(crate::specs::Operands::keyed_of))]
-fn keyed_of(key: &[u8], word: &[u8]) -> Option<u64>
+pub fn keyed_of(key: &[u8], word: &[u8]) -> Option<u64>
     ensures { result ≡ keyed_of key.now word.now }
 {
     if word.len() < key.len() {

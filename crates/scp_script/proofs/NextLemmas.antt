@@ -1,5 +1,5 @@
 -- What a command has next: a script only where it is a DO, and an exit only where it is EXIT.
-use Rattle.std.proofs.Common.{◌≡◌, ℕ, ◌+◌, ◌<◌, ◌==◌, Bool, not, is_none, true, false, List, length, refl, sym, subst, Option, Some, None, Result, Ok, Err, if◌then◌else◌, nat_le, nat_lt, ◌&&◌}
+use Rattle.std.proofs.Common.{◌≡◌, ℕ, ◌+◌, ◌<◌, ◌==◌, Bool, not, is_none, true, false, List, codes, length, refl, sym, subst, Option, Some, None, Result, Ok, Err, if◌then◌else◌, nat_le, nat_lt, ◌&&◌}
 use Rattle.file_commands.specs.declared.note.Subject.TheVariants as subject
 use Rattle.file_commands.specs.Notes.{CommandNote, failure_now}
 use Rattle.unit_trait.specs.declared.kind.Kind.{Kind}
@@ -31,7 +31,7 @@ use Rattle.command_session.specs.Nature.{IsUntold}
 use Rattle.command_session.specs.Answers.{CanAnswer, of_unit}
 use Rattle.command_session.specs.RunEffects.{reset_reply}
 use Rattle.plain_commands.specs.ListEffects.{lacks_device, examine_after, examine_reply, handed, deposit_after, deposit_reply}
-use Rattle.command_session.specs.LineEffects.{is_terminal, row_for, has_row, row_port, unported, terminal_line, unless_refused, detach_fault, detach_port_reply, show_line, show_ports}
+use Rattle.command_session.specs.LineEffects.{is_terminal, row_for, has_row, row_port, unported, terminal_line, console_line, unless_refused, detach_fault, detach_port_reply, show_line, show_ports}
 use Rattle.command_session.specs.FileEffects.{lacks_unit, detach_one_or_all}
 use Rattle.command_session.specs.FileEffects.{detach_answer, detach_reply}
 use Rattle.expect_actions.specs.Expects.{most_expects}
@@ -104,13 +104,13 @@ detach_port-none live kind = by (not (has_row (row_for kind) live.lines)) (is_no
     by false true = tt
     by false false = tt
 
-show_line-none : (line : Option (LineOf Peer)) (live : Live) → IsPlain (show_line line live).answer
-show_line-none None live = tt
-show_line-none (Some line) live = tt
+show_line-none : (name : List ℕ) (line : Option (LineOf Peer)) (live : Live) → IsPlain (show_line name line live).answer
+show_line-none name None live = tt
+show_line-none name (Some line) live = tt
 
 show_ports-none : (kind : Kind) (live : Live) → IsPlain (show_ports kind live).answer
 show_ports-none Qty live = none-if (has_row (row_for Qty) live.lines) _ _ tt tt
-show_ports-none kind live = show_line-none (terminal_line live.lines) live
+show_ports-none kind live = show_line-none (codes "TTI1") (terminal_line live.lines) live
 
 show-none : (live : Live) (subject : Shown) → IsPlain (show_reply live subject).answer
 unfolding show_reply
@@ -118,6 +118,7 @@ show-none live shown.Time = tt
 show-none live shown.Cpu = tt
 show-none live shown.Queue = tt
 show-none live shown.Version = tt
+show-none live shown.Console = show_line-none (codes "CONSOLE") (console_line live.lines) live
 show-none live (shown.Unit unit) = none-if (is_terminal unit) _ _ (show_ports-none unit.kind live) (none-if (lacks_unit live.machine unit) _ _ tt tt)
 show-none live shown.Break = tt
 show-none live shown.Expect = tt
@@ -200,6 +201,8 @@ untold-plain limit notes live (request.Detach unit) untold = absurd (cc untold.1
 untold-plain limit notes live (request.SetSize k) untold = set_size-none live k
 untold-plain limit notes live (request.SetAutobit before) untold = set_autobit-none live before
 untold-plain limit notes live (request.Disconnect kind) untold = absurd (cc untold.0)
+untold-plain limit notes live (request.SetConsole (Some port)) untold = absurd (cc untold.0)
+untold-plain limit notes live (request.SetConsole None) untold = absurd (cc untold.0)
 untold-plain limit notes live (request.Show subject) untold = show-none live subject
 untold-plain limit notes live (request.Assert test) untold = assert-none live test
 untold-plain limit notes live (request.Echo text) untold = echo-none live text
@@ -245,6 +248,8 @@ script-room scripts (request.Detach (Some unit)) file fits can plain = absurd (u
 script-room scripts (request.Attach option unit name) file fits can plain = absurd can
 script-room scripts (request.AttachPort kind port) file fits can plain = absurd can
 script-room scripts (request.Disconnect kind) file fits can plain = absurd can
+script-room scripts (request.SetConsole (Some port)) file fits can plain = absurd can
+script-room scripts (request.SetConsole None) file fits can plain = absurd can
 script-room scripts (request.Run address) file fits can plain = absurd can
 script-room scripts (request.Go address) file fits can plain = absurd can
 script-room scripts request.Cont file fits can plain = absurd can
@@ -272,6 +277,8 @@ exit-of (request.Do echo strict name arguments) status can plain = absurd can
 exit-of (request.Attach option unit name) status can plain = absurd can
 exit-of (request.AttachPort kind port) status can plain = absurd can
 exit-of (request.Disconnect kind) status can plain = absurd can
+exit-of (request.SetConsole (Some port)) status can plain = absurd can
+exit-of (request.SetConsole None) status can plain = absurd can
 exit-of (request.Run address) status can plain = absurd can
 exit-of (request.Go address) status can plain = absurd can
 exit-of request.Cont status can plain = absurd can

@@ -1,5 +1,5 @@
 -- What texts leave of the ports and the connections of the outside.
-use Rattle.std.proofs.Common.{◌≡◌, ◌∙◌, inl, inr, ap, sym, subst, ℕ, Bool, false, List, Option, Ok, Err}
+use Rattle.std.proofs.Common.{◌≡◌, ◌∙◌, inl, inr, ap, sym, subst, ℕ, Bool, false, List, Option, Some, None, Ok, Err}
 use Rattle.file_traits.specs.Lists.{NamedBytes}
 use Rattle.host_lines.specs.declared.lines.ListenFault.TheVariants as listen
 use Rattle.host_lines.specs.Traffic.{Answer as LineAnswer}
@@ -7,7 +7,7 @@ use Rattle.host_lines.specs.Told.{Told, IsFirst, record_in, ahead_of}
 use Rattle.host_lines.specs.State.{LineState, parties}
 use Rattle.telnet_lines.specs.Line.{LineOf}
 use Rattle.unit_trait.specs.declared.kind.Kind.TheVariants.{Qty}
-use Rattle.scp_parser.specs.Command.{Request, AttachPort, Restore}
+use Rattle.scp_parser.specs.Command.{Request, AttachPort, SetConsole, Restore}
 use Rattle.command_session.specs.declared.fault.CommandFault.TheVariants.{OutOfMemory}
 use Rattle.command_session.specs.Live.{Live, CommandState, beyond, live_in}
 use Rattle.command_session.specs.Nature.{nature}
@@ -71,6 +71,8 @@ has-listened ports s t files files' old new whole behind row first same =
 pub still-sent : (tells : Bool) (request : Request) (old new : LineState) → IsUnasked request (Err OutOfMemory) old new
     → ListenCause tells request (Err OutOfMemory) old new → new.sent ≡ old.sent
 still-sent tells (AttachPort kind port) old new unasked each = each.sent
+still-sent tells (SetConsole (Some port)) old new unasked each = each.sent
+still-sent tells (SetConsole None) old new unasked cause = ap (λ (s : LineState). s.sent) (unasked tt (λ none. none))
 still-sent tells (Restore force name) old new unasked (inl same) = ap (λ (s : LineState). s.sent) same
 still-sent tells (Restore force name) old new unasked (inr some) = some.listened.sent
 still-sent tells request old new unasked cause = ap (λ (s : LineState). s.sent) (unasked tt (λ none. none))
@@ -92,6 +94,11 @@ short-stands tells (AttachPort Qty port) ports s t files files' old new whole te
 short-stands tells (AttachPort kind port) ports s t files files' old new whole telling unasked each first left =
     let one = one-refused tells port listen.OutOfMemory old new each in
     inl (remains-still false (live_in s (beyond files old whole)) t files' old new whole (record { told = one.told telling; behind = one.behind }) left)
+short-stands tells (SetConsole (Some port)) ports s t files files' old new whole telling unasked each first left =
+    let one = one-refused tells port listen.OutOfMemory old new each in
+    inl (remains-still false (live_in s (beyond files old whole)) t files' old new whole (record { told = one.told telling; behind = one.behind }) left)
+short-stands tells (SetConsole None) ports s t files files' old new whole telling unasked cause first left =
+    inl (remains-still false (live_in s (beyond files old whole)) t files' old new whole (still-same old new (unasked tt (λ none. none))) left)
 short-stands tells (Restore force name) ports s t files files' old new whole telling unasked (inl same) first left =
     inl (remains-still false (live_in s (beyond files old whole)) t files' old new whole (still-same old new same) left)
 short-stands tells (Restore force name) ports s t files files' old new whole telling unasked (inr some) first left =

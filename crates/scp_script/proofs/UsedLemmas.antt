@@ -12,7 +12,7 @@ use Rattle.unit_files.specs.Attachments.{Held}
 use Rattle.file_commands.specs.Notes.{Note}
 use Rattle.unit_trait.specs.declared.kind.Kind.{Kind}
 use Rattle.unit_trait.specs.declared.kind.UnitName.{UnitName}
-use Rattle.scp_parser.specs.Command.{Request, Run, Go, Cont, Step, AttachPort, Detach, Disconnect, Exit, Restore}
+use Rattle.scp_parser.specs.Command.{Request, Run, Go, Cont, Step, AttachPort, Detach, Disconnect, SetConsole, Exit, Restore}
 use Rattle.nova_machine.specs.Machine.{MachineState}
 use Rattle.nova_machine.specs.Seen.{unnumbered}
 use Rattle.nova_machine.specs.Comes.{Output, AreFree}
@@ -24,12 +24,13 @@ use Rattle.command_session.specs.declared.fault.CommandFault.{CommandFault}
 use Rattle.command_session.specs.declared.fault.CommandFault.TheVariants.{Console, OutOfMemory}
 use Rattle.command_session.specs.Live.{Live, CommandState, Beyond, live_in}
 use Rattle.command_session.specs.Reply.{Answer}
-use Rattle.command_session.specs.LineEffects.{is_terminal, row_for, every_row, first_place, terminal_place, detach_fault}
+use Rattle.command_session.specs.declared.terminal.LineRow.{LineRow}
+use Rattle.command_session.specs.LineEffects.{is_terminal, row_for, every_row, console_row, terminal_place, detach_fault}
 use Rattle.command_session.specs.Nature.{Telling, nature}
 use Rattle.command_session.specs.Nature.Telling.{Nothing, Ported, Listening, Attached, Named, Whole}
 use Rattle.command_session.specs.Doing.{IsRefused, told_by, IsTold}
 use Rattle.command_session.specs.LinesLeft.{IsUnlistened}
-use Rattle.command_session.specs.PortAnswers.{LinesStay, closes_at, ClosesEach, detaches_row, DetachesPort, disconnects_at, Disconnects, ClosesPorts, ClosesAll, detaches_by}
+use Rattle.command_session.specs.PortAnswers.{LinesStay, closes_at, ClosesEach, detaches_row, DetachesRow, DetachesPort, disconnects_at, Disconnects, ClosesPorts, ClosesAll, detaches_by}
 use Rattle.command_session.specs.Asked.{Asked, asked}
 use Rattle.scp_commands.specs.LineAnswers.{RunLines, LinesAnswer}
 use Rattle.session_texts.specs.Lines.{InputEnds, LineComes, arrival}
@@ -152,19 +153,23 @@ each-none (suc count) place old before new after none (mid, between, one, more) 
     each-none count (suc place) mid between new after (subst HaveNoPort (sym same.1) none) more ∙ same.0
 
 closes-none : (old : LineState) (before : List (LineOf ℕ)) (new : LineState) (after : List (LineOf ℕ)) → HaveNoPort before → ClosesPorts old before new after → new ≡ old
-closes-none old before new after none closes = each-none every_row.count (first_place every_row) old before new after none closes
+closes-none old before new after none closes = each-none every_row.count every_row.place old before new after none closes
 
 closes-all-none : (answer : Answer) (old : LineState) (before : List (LineOf ℕ)) (new : LineState) (after : List (LineOf ℕ)) → HaveNoPort before → ClosesAll answer old before new after → new ≡ old
 closes-all-none (Ok next) old before new after none closes = closes-none old before new after none closes
 closes-all-none (Err fault) old before new after none stay = stay.outside
 
+row-none : (row : LineRow) (answer : Answer) (old : LineState) (before : List (LineOf ℕ)) (new : LineState) (after : List (LineOf ℕ)) → HaveNoPort before → DetachesRow row answer old before new after
+    → new ≡ old
+row-none row answer old before new after none detaches = by (detach_fault row before) detaches
+  where
+    by : (fault : Option CommandFault) → detaches_row fault row answer old before new after → new ≡ old
+    by (Some fault) is = is.stay.outside
+    by None is = each-none row.count row.place old before new after none is.closes
+
 detaches-none : (kind : Kind) (answer : Answer) (old : LineState) (before : List (LineOf ℕ)) (new : LineState) (after : List (LineOf ℕ)) → HaveNoPort before → DetachesPort kind answer old before new after
     → new ≡ old
-detaches-none kind answer old before new after none detaches = by (detach_fault (row_for kind) before) detaches
-  where
-    by : (fault : Option CommandFault) → detaches_row fault (row_for kind) answer old before new after → new ≡ old
-    by (Some fault) is = is.stay.outside
-    by None is = each-none (row_for kind).count (first_place (row_for kind)) old before new after none is.closes
+detaches-none kind answer old before new after none detaches = row-none (row_for kind) answer old before new after none detaches
 
 disconnects-none : (answer : Answer) (old : LineState) (before : List (LineOf ℕ)) (new : LineState) (after : List (LineOf ℕ)) → HaveNoPort before → Disconnects answer old before new after → new ≡ old
 disconnects-none answer old before new after none disconnects = by (slice_get before terminal_place) refl disconnects
@@ -198,6 +203,9 @@ module _ (tells : Bool) (answer : Answer) (old new : LineState) (before after : 
       (detached-none (is_terminal unit) tells unit.kind answer old before new after untold told)
   still-lines (Disconnect kind) told unasked line =
       never-told tells before untold told (λ none. by-answer (Disconnect kind) answer old new (λ a. Disconnects a old before new after) (λ n. n) unasked line (disconnects-none answer old before new after none))
+  still-lines (SetConsole (Some port)) told unasked line = absurd (untold told)
+  still-lines (SetConsole None) told unasked line =
+      never-told tells before untold told (λ none. by-answer (SetConsole None) answer old new (λ a. DetachesRow console_row a old before new after) (λ n. n) unasked line (row-none console_row answer old before new after none))
   still-lines (Exit status) told unasked line =
       never-told tells before untold told (λ none. by-answer (Exit status) answer old new (λ a. ClosesAll a old before new after) (λ n. n) unasked line (closes-all-none answer old before new after none))
   still-lines r told unasked line = by-answer r answer old new (λ _. LinesStay old before new after) (λ n. n) unasked line (λ stay. stay.outside)

@@ -7,7 +7,7 @@ use Rattle.command_session.specs.declared.next.Next.TheVariants.{Go, Ran, Do, Go
 use Rattle.command_session.specs.Live.{Live}
 use Rattle.command_session.specs.Reply.{Answer}
 use Rattle.scp_commands.specs.Effect.{effect}
-use Rattle.command_laws.proofs.ScriptLemmas.{NoScript, run_from-none, ran-none, step-none, attach-none, attach_port-none, disconnect-none, detach_all-none, exit-none, load-none, dump-none, save-none, restore-none}
+use Rattle.command_laws.proofs.ScriptLemmas.{NoScript, run_from-none, ran-none, step-none, attach-none, attach_port-none, disconnect-none, set_console-none, detach_all-none, exit-none, load-none, dump-none, save-none, restore-none}
 use Rattle.session_texts.specs.Scripts.{Script, most_scripts}
 use Rattle.scp_script.specs.Loop.{FitsIn}
 use Rattle.scp_script.proofs.NextLemmas.{IsPlain, untold-plain, detach-plain}
@@ -64,6 +64,7 @@ room-effect scripts limit notes live (request.Detach (Some unit)) fits = plain s
 room-effect scripts limit notes live (request.SetSize k) fits = plain scripts _ (untold-plain limit notes live (request.SetSize k) (refl, refl))
 room-effect scripts limit notes live (request.SetAutobit before) fits = plain scripts _ (untold-plain limit notes live (request.SetAutobit before) (refl, refl))
 room-effect scripts limit notes live (request.Disconnect kind) fits = room-none scripts _ (disconnect-none live)
+room-effect scripts limit notes live (request.SetConsole port) fits = room-none scripts _ (set_console-none live port)
 room-effect scripts limit notes live (request.Show subject) fits = plain scripts _ (untold-plain limit notes live (request.Show subject) (refl, refl))
 room-effect scripts limit notes live (request.Assert test) fits = plain scripts _ (untold-plain limit notes live (request.Assert test) (refl, refl))
 room-effect scripts limit notes live (request.Echo text) fits = plain scripts _ (untold-plain limit notes live (request.Echo text) (refl, refl))

@@ -169,8 +169,8 @@ pub fn put_ports<U: Unit, L: Lines>(
     let console = row_of(ports.console, 1, true);
     match listen_three(alloc, terminal, multiplexer, console, lines) {
         Ok(()) => {
-            put_row(machine, 0, ports.tti1 as u32, terminal.count);
-            put_row(machine, 1, ports.qty as u32, multiplexer.count);
+            put_row(machine, 1, ports.tti1 as u32, terminal.count);
+            put_row(machine, 2, ports.qty as u32, multiplexer.count);
             put_console(machine, ports.console, console.count);
             Ok(())
         }

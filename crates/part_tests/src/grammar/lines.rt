@@ -51,6 +51,8 @@ SHOW BREAK|ShowBreak
 show expect|ShowExpect
 show send|ShowSend
 SHOW VERSION|ShowVersion
+SHOW CONSOLE|ShowConsole
+sh console \t|ShowConsole
 SHOW PTR|ShowUnit PTR 0
 SHOW tti1|ShowUnit TTI1 0
 SHOW QTY|ShowUnit QTY 0

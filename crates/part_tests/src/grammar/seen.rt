@@ -55,6 +55,7 @@ pub fn seen(verb: &Verb) -> (&'static str, Numbers) {
         Verb::SetSize(size) => ("SetSize", one(Some(*size))),
         Verb::SetAutobit(true) => ("SetAutobitBefore", NONE),
         Verb::SetAutobit(false) => ("SetAutobitAfter", NONE),
+        Verb::SetConsole(port) => ("SetConsole", one(*port)),
         Verb::Disconnect(kind) => ("Disconnect", one(code(*kind))),
         _ => seen_of_watches(verb),
     }
@@ -69,6 +70,7 @@ fn shown(subject: &Shown) -> (&'static str, Numbers) {
         Shown::Expect => ("ShowExpect", NONE),
         Shown::Send => ("ShowSend", NONE),
         Shown::Version => ("ShowVersion", NONE),
+        Shown::Console => ("ShowConsole", NONE),
         Shown::Unit(name) => ("ShowUnit", unit(name)),
     }
 }

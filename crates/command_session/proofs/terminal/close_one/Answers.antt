@@ -1,51 +1,50 @@
-use Rattle.std.proofs.Common.{◌≡◌, ◌∙◌, ap, sym, ℕ, List, slice_get, slice_set, Some, None}
+use Rattle.std.proofs.Common.{◌≡◌, ◌∙◌, ap, sym, subst, ℕ, ◌-◌, List, slice_get, arith}
 use Rattle.telnet_lines.specs.Line.{LineOf}
-use Rattle.nova_machine.specs.Machine.{place_of}
+use Rattle.terminal_ports.specs.Ports.{changed_at}
+use Rattle.nova_machine.specs.Machine.{console_place, place_of}
 use Rattle.command_session.specs.LineEffects.{closed}
-use Rattle.command_session.proofs.PortLemmas.{left-same, seen-none, close-left, close-seen}
-use Rattle.command_session.proofs.PortAnswerLemmas.{none-closes, line-closes}
-use Rattle.terminal_ports.proofs.PortsApart.{changed-set, changed-none}
+use Rattle.command_session.specs.LinesLeft.{SeenAs}
+use Rattle.command_session.specs.PortAnswers.{closes_at}
 use Rattle.command_session.proofs.terminal.close_one.Goals as goal
 
-pub returns-in-None-clause-left : goal.returns-in-None-clause-left
-returns-in-None-clause-left g c = left-same g.L.Lines.tells (g.L.Lines.state c.args.lines.now) c.args.machine.now.lines
+-- ---- the console line
 
-pub returns-in-None-clause-seen : goal.returns-in-None-clause-seen
-returns-in-None-clause-seen g c = λ told.
-    let none : slice_get c.args.machine.now.lines (place_of c.args.number) ≡ None = sym c.in-None.ensures.value in
-    seen-none closed (place_of c.args.number) (g.L.Lines.state c.args.lines.now) c.args.machine.now.lines none
+pub returns-then-place-eq0-clause-machine : goal.returns-then-place-eq0-clause-machine
+returns-then-place-eq0-clause-machine g c =
+    let m = c.args.machine.now in
+    let same : console_place ≡ c.args.place = sym c.if-place-eq0.true in
+    c.close_console.ensures.machine ∙ ap (λ (place : ℕ). record m { lines = changed_at place closed m.lines }) same
 
-pub returns-in-Some-clause-left : goal.returns-in-Some-clause-left
-returns-in-Some-clause-left g c =
-    let at : slice_get c.args.machine.now.lines (place_of c.args.number) ≡ Some c.in-Some.line.now = sym c.in-Some.ensures.value in
-    close-left (place_of c.args.number) g.L.Lines.tells (g.L.Lines.state c.args.lines.now) (g.L.Lines.state c.close.new.lines) c.args.machine.now.lines c.in-Some.line.now c.close.new.line at
-    (λ none. ap g.L.Lines.state (c.close.ensures.none none)) c.close.ensures.parties c.close.ensures.line c.close.ensures.outside
-
-pub returns-in-Some-clause-seen : goal.returns-in-Some-clause-seen
-returns-in-Some-clause-seen g c =
-    let at : slice_get c.args.machine.now.lines (place_of c.args.number) ≡ Some c.in-Some.line.now = sym c.in-Some.ensures.value in
-    close-seen (place_of c.args.number) g.L.Lines.tells (g.L.Lines.state c.args.lines.now) (g.L.Lines.state c.close.new.lines) c.args.machine.now.lines c.in-Some.line.now c.close.new.line at
-    (λ none. ap g.L.Lines.state (c.close.ensures.none none)) c.close.ensures.parties c.close.ensures.line c.close.ensures.outside
-
-pub returns-in-None-clause-line : goal.returns-in-None-clause-line
-returns-in-None-clause-line g c =
-    none-closes (place_of c.args.number) (g.L.Lines.state c.args.lines.now) c.args.machine.now.lines (sym c.in-None.ensures.value)
-
-pub returns-in-Some-clause-line : goal.returns-in-Some-clause-line
-returns-in-Some-clause-line g c =
-    let at : slice_get c.args.machine.now.lines (place_of c.args.number) ≡ Some c.in-Some.line.now = sym c.in-Some.ensures.value in
-    line-closes (place_of c.args.number) (g.L.Lines.state c.args.lines.now) (g.L.Lines.state c.close.new.lines) c.in-Some.line.now c.close.new.line (λ none. ap g.L.Lines.state (c.close.ensures.none none))
-    c.args.machine.now.lines at c.close.ensures.line c.close.ensures.outside
-
-pub returns-in-None-clause-machine : goal.returns-in-None-clause-machine
-returns-in-None-clause-machine g c =
-    let none : slice_get c.args.machine.now.lines (place_of c.args.number) ≡ None = sym c.in-None.ensures.value in
-    ap (λ (ls : List (LineOf ℕ)). record c.args.machine.now { lines = ls }) (sym (changed-none closed (place_of c.args.number) c.args.machine.now.lines none))
-
-pub returns-in-Some-clause-machine : goal.returns-in-Some-clause-machine
-returns-in-Some-clause-machine g c =
+pub returns-then-place-eq0-clause-line : goal.returns-then-place-eq0-clause-line
+returns-then-place-eq0-clause-line g c =
     let lines = c.args.machine.now.lines in
-    let place = place_of c.args.number in
-    let at : slice_get lines place ≡ Some c.in-Some.line.now = sym c.in-Some.ensures.value in
-    ap (λ (ls : List (LineOf ℕ)). record c.args.machine.now { lines = ls })
-    (ap (slice_set lines place) c.close.ensures.line ∙ changed-set closed place lines c.in-Some.line.now at)
+    let same : console_place ≡ c.args.place = sym c.if-place-eq0.true in
+    subst (λ (place : ℕ). closes_at place (slice_get lines place) (g.L.Lines.state c.args.lines.now) lines (g.L.Lines.state c.close_console.new.lines) c.close_console.new.machine.lines) same
+    c.close_console.ensures.line
+
+pub returns-then-place-eq0-clause-seen : goal.returns-then-place-eq0-clause-seen
+returns-then-place-eq0-clause-seen g c = λ told.
+    let same : console_place ≡ c.args.place = sym c.if-place-eq0.true in
+    subst (λ (place : ℕ). SeenAs (changed_at place closed) (g.L.Lines.state c.args.lines.now) c.args.machine.now.lines (g.L.Lines.state c.close_console.new.lines) c.close_console.new.machine.lines) same
+    (c.close_console.ensures.seen told)
+
+-- ---- a terminal line
+
+pub returns-else-place-eq0-clause-machine : goal.returns-else-place-eq0-clause-machine
+returns-else-place-eq0-clause-machine g c =
+    let m = c.args.machine.now in
+    let same : place_of (c.args.place - 1) ≡ c.args.place = omega arith in
+    c.close_terminal.ensures.machine ∙ ap (λ (place : ℕ). record m { lines = changed_at place closed m.lines }) same
+
+pub returns-else-place-eq0-clause-line : goal.returns-else-place-eq0-clause-line
+returns-else-place-eq0-clause-line g c =
+    let lines = c.args.machine.now.lines in
+    let same : place_of (c.args.place - 1) ≡ c.args.place = omega arith in
+    subst (λ (place : ℕ). closes_at place (slice_get lines place) (g.L.Lines.state c.args.lines.now) lines (g.L.Lines.state c.close_terminal.new.lines) c.close_terminal.new.machine.lines) same
+    c.close_terminal.ensures.line
+
+pub returns-else-place-eq0-clause-seen : goal.returns-else-place-eq0-clause-seen
+returns-else-place-eq0-clause-seen g c = λ told.
+    let same : place_of (c.args.place - 1) ≡ c.args.place = omega arith in
+    subst (λ (place : ℕ). SeenAs (changed_at place closed) (g.L.Lines.state c.args.lines.now) c.args.machine.now.lines (g.L.Lines.state c.close_terminal.new.lines) c.close_terminal.new.machine.lines) same
+    (c.close_terminal.ensures.seen told)

@@ -2,15 +2,15 @@ use Rattle.std.proofs.Common.{refl, ap, sym, ◌∙◌, subst, ◌≡◌, true, 
 use Rattle.file_commands.specs.Notes.{notes_said}
 use Rattle.file_commands.specs.declared.note.Subject.TheVariants as subject
 use Rattle.host_lines.specs.Told.{Heard}
-use Rattle.scp_parser.specs.Command.{request_of, Request, Attach, AttachPort, Detach, Disconnect, Exit, Do, Load, Dump, file_name_of}
+use Rattle.scp_parser.specs.Command.{request_of, Request, Attach, AttachPort, Detach, Disconnect, SetConsole, Exit, Do, Load, Dump, file_name_of}
 use Rattle.nova_machine.specs.Machine.{attached_files}
 use Rattle.nova_machine.specs.Comes.{output}
 use Rattle.command_session.specs.Live.{CommandState, live_in, beyond}
 use Rattle.command_session.specs.Nature.{nature}
-use Rattle.command_session.specs.Doing.{says_files, opens_of, OpensNone, OpensOwn, OpensForUnit, IsTold, IsRefused, Did}
+use Rattle.command_session.specs.Doing.{MayWant, says_files, opens_of, OpensNone, OpensOwn, OpensForUnit, IsTold, IsRefused, Did}
 use Rattle.command_session.specs.LinesLeft.{IsUnlistened, ListenCause}
 use Rattle.command_session.specs.Refusals.{IsMeasured, IsUnrefused}
-use Rattle.command_session.specs.LineEffects.{attach_port_reply, disconnect_reply}
+use Rattle.command_session.specs.LineEffects.{attach_port_reply, disconnect_reply, set_console_reply}
 use Rattle.command_session.specs.ExitEffects.{exit_reply}
 use Rattle.command_session.specs.FileEffects.{mode_of, attach_reply, detach_one_or_all}
 use Rattle.command_session.specs.TapeEffects.{load_reply, dump_reply}
@@ -514,3 +514,79 @@ returns-in-AttachPort-clause-missing g c =
 pub returns-in-Detach-clause-missing : goal.returns-in-Detach-clause-missing
 returns-in-Detach-clause-missing g c =
     subst (λ (r : Request). MissesUnit r c.detach_one_or_every.result c.args.session.now.machine.units) (sym (sym c.command.view_is ∙ ap (request_of _) c.in-Detach.is)) c.detach_one_or_every.ensures.missing
+
+-- ---- SET of the console line
+
+pub returns-in-SetConsole-clause-told : goal.returns-in-SetConsole-clause-told
+returns-in-SetConsole-clause-told g c = λ told step whole first tells printed.
+    let s = c.args.session.now in
+    let state = g.F.Files.state c.args.files.now in
+    let ports = g.L.Lines.state c.args.lines.now in
+    let ports' = g.L.Lines.state c.set_console.new.lines in
+    let new = c.set_console.new.session in
+    let live = live_in s (beyond state.files ports whole) in
+    let what = c.in-SetConsole in
+    let is : c.args.command.now ≡ SetConsole what.port = sym c.command.view_is ∙ ap (request_of _) what.is in
+    let own = subst (λ (r : Request). IsTold g.F.Files.tells s.machine.slots g.L.Lines.tells ports s.machine.lines r) is told in
+    let text = output printed ports.sent in
+    subst (λ (h : Heard). Did (λ own. host_effect own live c.args.command.now) s.command c.set_console.result (live_in new (beyond state.files ports' whole)) tells
+    text (output printed h) (notes_said s.notes) (notes_said new.notes)) (sym c.set_console.ensures.sent)
+    (plain-did s.command live (live_in new (beyond state.files ports' whole)) c.args.command.now (SetConsole what.port) (set_console_reply live what.port) c.set_console.result tells
+    text text (notes_said s.notes) (notes_said new.notes) is (λ own. refl) (ap (λ (x : CommandState). notes_said x.notes) c.set_console.ensures.rest)
+    (c.set_console.ensures.told g.F.Files.tells s.machine.slots own whole first state.files tells text))
+
+pub returns-in-SetConsole-clause-keeps : goal.returns-in-SetConsole-clause-keeps
+returns-in-SetConsole-clause-keeps g c =
+    let asks = sym c.command.view_is ∙ ap (request_of _) c.in-SetConsole.is in
+    kept-as OpensNone c.args.command.now c.args.session.now.command c.set_console.new.session.machine.time g.F.Files.tells c.set_console.result c.args.session.now.notes c.set_console.new.session.notes
+    (g.F.Files.state c.args.files.now) (g.F.Files.state c.args.files.now) (ap opens_of asks)
+    (keeps-none c.args.session.now.command c.set_console.new.session.machine.time g.F.Files.tells c.set_console.result c.args.session.now.notes c.set_console.new.session.notes (g.F.Files.state c.args.files.now)
+    (ap (λ (x : CommandState). x.notes) c.set_console.ensures.rest) (port-no-file c.set_console.result c.set_console.ensures.own))
+
+pub returns-in-SetConsole-clause-lines : goal.returns-in-SetConsole-clause-lines
+returns-in-SetConsole-clause-lines g c = c.set_console.ensures.left
+
+pub returns-in-SetConsole-clause-unasked : goal.returns-in-SetConsole-clause-unasked
+returns-in-SetConsole-clause-unasked g c =
+    let is : c.args.command.now ≡ SetConsole c.in-SetConsole.port = sym c.command.view_is ∙ ap (request_of _) c.in-SetConsole.is in
+    λ refused never. c.set_console.ensures.unasked refused (λ un. never (subst (λ (r : Request). IsUnlistened r c.set_console.result) (sym is) un))
+
+pub returns-in-SetConsole-clause-listening : goal.returns-in-SetConsole-clause-listening
+returns-in-SetConsole-clause-listening g c =
+    let is : c.args.command.now ≡ SetConsole c.in-SetConsole.port = sym c.command.view_is ∙ ap (request_of _) c.in-SetConsole.is in
+    subst (λ (r : Request). ListenCause g.L.Lines.tells r c.set_console.result (g.L.Lines.state c.args.lines.now) (g.L.Lines.state c.set_console.new.lines)) (sym is) c.set_console.ensures.cause
+
+pub returns-in-SetConsole-clause-undone : goal.returns-in-SetConsole-clause-undone
+returns-in-SetConsole-clause-undone g c = λ is text.
+    let s = c.args.session.now in
+    let new = c.set_console.new.session in
+    let refused = c.set_console.ensures.refused (subst IsRefused (sym is) tt) in
+    undone-none (nature c.args.command.now).flushes (nature c.args.command.now).reads_whole (says_files g.F.Files.tells c.args.command.now) s new text (g.F.Files.state c.args.files.now)
+    refused.0 refused.1 (ap (λ (x : CommandState). x.keys) c.set_console.ensures.rest) (ap (λ (x : CommandState). x.notes) c.set_console.ensures.rest)
+
+pub returns-in-SetConsole-clause-unrefused : goal.returns-in-SetConsole-clause-unrefused
+returns-in-SetConsole-clause-unrefused g c =
+    let is : c.args.command.now ≡ SetConsole c.in-SetConsole.port = sym c.command.view_is ∙ ap (request_of _) c.in-SetConsole.is in
+    λ want. subst (λ (r : Request). IsUnrefused r c.args.session.now.machine c.args.session.now.watch) (sym is) (c.set_console.ensures.unrefused want)
+
+pub returns-in-SetConsole-clause-line : goal.returns-in-SetConsole-clause-line
+returns-in-SetConsole-clause-line g c =
+    subst (λ (r : Request). HostLines g.L.Lines.tells r c.set_console.result (g.L.Lines.state c.args.lines.now) c.args.session.now.machine.lines (g.L.Lines.state c.set_console.new.lines) c.set_console.new.session.machine.lines)
+    (sym (sym c.command.view_is ∙ ap (request_of _) c.in-SetConsole.is)) c.set_console.ensures.line
+
+pub returns-in-SetConsole-clause-tables : goal.returns-in-SetConsole-clause-tables
+returns-in-SetConsole-clause-tables g c = λ some.
+    by-asks c.args.session.now.machine c.set_console.result c.args.command.now _ (sym c.command.view_is ∙ ap (request_of _) c.in-SetConsole.is) tt
+
+pub returns-in-SetConsole-clause-answers : goal.returns-in-SetConsole-clause-answers
+returns-in-SetConsole-clause-answers g c =
+    can-by c.set_console.result c.args.command.now _ (sym c.command.view_is ∙ ap (request_of _) c.in-SetConsole.is) c.set_console.ensures.answers
+
+pub returns-in-SetConsole-clause-step : goal.returns-in-SetConsole-clause-step
+returns-in-SetConsole-clause-step g c = λ told.
+    held-step c.args.session.now c.set_console.new.session (g.F.Files.state c.args.files.now).files (g.F.Files.state c.args.files.now).files c.set_console.ensures.attached
+
+pub returns-in-SetConsole-clause-want : goal.returns-in-SetConsole-clause-want
+returns-in-SetConsole-clause-want g c =
+    let is : c.args.command.now ≡ SetConsole c.in-SetConsole.port = sym c.command.view_is ∙ ap (request_of _) c.in-SetConsole.is in
+    λ want. subst (λ (r : Request). MayWant 16 r) (sym is) (c.set_console.ensures.want want)

@@ -27,7 +27,7 @@ returns-clause-cause g c =
     let m = c.session.inside.machine in
     let old = g.L.Lines.state c.args.lines.now in
     let new = g.L.Lines.state c.attach_row.new.lines in
-    attach-cause g.L.Lines.tells c.args.kind c.args.port c.attach_row.result old new m.lines c.attach_row.new.machine.lines
+    attach-cause g.L.Lines.tells (row_for c.args.kind) c.args.port c.attach_row.result old new m.lines c.attach_row.new.machine.lines
     (subst (λ (r : LineRow). AttachesRow g.L.Lines.tells r c.args.port c.attach_row.result old m.lines new c.attach_row.new.machine.lines) c.row_for.ensures.row c.attach_row.ensures.told)
 
 pub returns-clause-missing : goal.returns-clause-missing

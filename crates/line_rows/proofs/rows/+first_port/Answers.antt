@@ -1,28 +1,26 @@
-use Rattle.std.proofs.Common.{ℕ, ◌<◌, ◌-◌, refl, sym, subst, rules}
-use Rattle.terminal_ports.specs.Rows.{AreFree}
+use Rattle.std.proofs.Common.{◌<◌, refl, sym, rules}
 use Rattle.terminal_ports.proofs.Rows.{none-first, none-free, some-free}
-use Rattle.nova_machine.specs.Machine.{place_of}
-use Rattle.line_rows.proofs.RowLemmas.{next-place, first-here, first-behind}
+use Rattle.line_rows.proofs.RowLemmas.{first-here, first-behind}
 use Rattle.line_rows.proofs.rows.+first_port.Goals as goal
 
 pub returns-then-count-eq0-clause-port : goal.returns-then-count-eq0-clause-port
-returns-then-count-eq0-clause-port g t c = sym (none-first c.args.count (place_of c.args.number) c.args.machine.now.lines c.if-count-eq0.true)
+returns-then-count-eq0-clause-port g t c = sym (none-first c.args.count c.args.place c.args.machine.now.lines c.if-count-eq0.true)
 
 pub returns-then-count-eq0-clause-none : goal.returns-then-count-eq0-clause-none
-returns-then-count-eq0-clause-none g t c = λ _. none-free c.args.count (place_of c.args.number) c.args.machine.now.lines c.if-count-eq0.true
+returns-then-count-eq0-clause-none g t c = λ _. none-free c.args.count c.args.place c.args.machine.now.lines c.if-count-eq0.true
 
 pub returns-in-Some-clause-port : goal.returns-in-Some-clause-port
 returns-in-Some-clause-port g t c =
     let some : 0 < c.args.count = search rules in
-    first-here c.args.count c.args.number c.args.machine.now.lines some c.in-Some.port c.in-Some.ensures.port
+    first-here c.args.count c.args.place c.args.machine.now.lines some c.in-Some.port c.in-Some.ensures.port
 
 pub returns-in-None-clause-port : goal.returns-in-None-clause-port
 returns-in-None-clause-port g t c =
     let some : 0 < c.args.count = search rules in
-    first-behind c.args.count c.args.number c.args.machine.now.lines some c.first_port.result c.in-None.ensures.port c.first_port.ensures.port
+    first-behind c.args.count c.args.place c.args.machine.now.lines some c.first_port.result c.in-None.ensures.port c.first_port.ensures.port
 
 pub returns-in-None-clause-none : goal.returns-in-None-clause-none
 returns-in-None-clause-none g t c = λ none.
     let some : 0 < c.args.count = search rules in
-    some-free c.args.count (place_of c.args.number) c.args.machine.now.lines some (c.in-None.ensures.none refl)
-    (subst (λ (k : ℕ). AreFree (c.args.count - 1) k c.args.machine.now.lines) (sym (next-place c.args.number)) (c.first_port.ensures.none none))
+    some-free c.args.count c.args.place c.args.machine.now.lines some (c.in-None.ensures.none refl)
+    (c.first_port.ensures.none none)

@@ -5,7 +5,7 @@ use Rattle.expect_actions.specs.Watch.{WatchState}
 use Rattle.nova_machine.specs.Machine.{MachineState}
 use Rattle.nova_machine.specs.Seen.{seen, beside}
 use Rattle.nova_machine.specs.Comes.{output}
-use Rattle.scp_parser.specs.declared.command.Shown.TheVariants.{Unit as AUnit}
+use Rattle.scp_parser.specs.declared.command.Shown.TheVariants.{Console, Unit as AUnit}
 use Rattle.command_session.specs.Live.{standing}
 use Rattle.plain_commands.specs.WatchTexts.{breaks_text, expects_text, sends_text}
 use Rattle.plain_commands.specs.ShowEffects.{time_text, cpu_text, queue_text, show_reply}
@@ -70,6 +70,18 @@ returns-in-Send-clause-told g c =
     sends-does c.session.inside.machine c.session.inside.watch c.session.inside.keys files c.put_sends-printed.result c.told_or_console-in-Send.result g.S.Sink.tells (output before heard) (output after heard)
     c.told_or_console-in-Send.ensures
     (λ t. subst (λ (w : WatchState). Puts before (sends_text w.sends) c.put_sends-printed.result after) (ap (λ i. i.watch) c.session-inside.view_is) (c.put_sends-printed.ensures.told t)) refl))
+
+pub returns-in-Console-clause-told : goal.returns-in-Console-clause-told
+unfolding show_reply
+returns-in-Console-clause-told g c =
+    let before = g.S.Sink.written c.args.out.now in
+    let after = g.S.Sink.written c.show_console.new.out in
+    let watch = c.session.inside.watch in
+    let keys = c.session.inside.keys in
+    rw (c.in-Console.is) (rw (← c.session.view_is) (λ files heard.
+    subst (λ (m : MachineState). Does (show_reply (seen (beside watch keys files.files files.lines) files.whole m) Console) c.show_console.result (standing 0 (seen (beside watch keys files.files files.lines) files.whole m)) g.S.Sink.tells (output before heard) (output after heard))
+    (ap (λ i. i.machine) c.session-inside.view_is)
+    (c.show_console.ensures.told watch keys files heard)))
 
 pub returns-in-Unit-clause-told : goal.returns-in-Unit-clause-told
 returns-in-Unit-clause-told g c =

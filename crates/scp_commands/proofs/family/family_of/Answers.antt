@@ -31,6 +31,9 @@ returns-in-Detach-clause-host c = λ _. subst (λ (r : Request). IsHosted r) (sy
 pub returns-in-Disconnect-clause-host : goal.returns-in-Disconnect-clause-host
 returns-in-Disconnect-clause-host c = λ _. subst (λ (r : Request). IsHosted r) (sym (sym c.command.view_is ∙ ap (request_of _) c.in-Disconnect.is)) tt
 
+pub returns-in-SetConsole-clause-host : goal.returns-in-SetConsole-clause-host
+returns-in-SetConsole-clause-host c = λ _. subst (λ (r : Request). IsHosted r) (sym (sym c.command.view_is ∙ ap (request_of _) c.in-SetConsole.is)) tt
+
 pub returns-in-Exit-clause-host : goal.returns-in-Exit-clause-host
 returns-in-Exit-clause-host c = λ _. subst (λ (r : Request). IsHosted r) (sym (sym c.command.view_is ∙ ap (request_of _) c.in-Exit.is)) tt
 
@@ -54,6 +57,7 @@ returns-in_default-clause-untold c = λ _.
       attach_port = c.in_default.not-AttachPort;
       detach = c.in_default.not-Detach;
       disconnect = c.in_default.not-Disconnect;
+      set_console = c.in_default.not-SetConsole;
       exit = c.in_default.not-Exit;
       do_ = c.in_default.not-Do;
       load = c.in_default.not-Load;
