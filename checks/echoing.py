@@ -7,11 +7,11 @@ import subprocess
 import sys
 
 import state_files
+from calling import OPENING
 
 TOP = os.path.dirname(os.path.dirname(os.path.realpath(__file__)))
 PROGRAM = os.path.realpath(os.path.join(TOP, os.environ.get("NOVA", "nova")))
 GUEST = os.path.join(TOP, "examples", "terminals_echoed", "input")
-OPENING = bytes.fromhex("FFFB01 FFFB03 FFFB00 FFFD00")
 LINES = 64
 # A run has so many instructions at most.
 LIMIT = 100_000_000_000
