@@ -9,12 +9,13 @@ import socket
 import struct
 import time
 
+from calling import OPENING
+
 MIB = 1 << 20
 # Numbers at which a length or a place is at a limit of the program, of a format or of a type.
 EDGES = [0, 1, 2, 3, 4, 255, 256, 65535, 65536, MIB - 1, MIB, MIB + 1, 4 * MIB, 16 * MIB, 64 * MIB]
 LENGTHS = [0, 1, 2, 0xFFFFFE, 0xFFFFFF, 0x1000000, 0x1000001, 0x7FFFFFFF, 0x80000000, 0x80000001, 0x80FFFFFF,
            0x81000000, 0xFFFF0000, 0xFFFFFFFD, 0xFFFFFFFE, 0xFFFFFFFF]
-OPENING = bytes([255, 251, 1, 255, 251, 3, 255, 251, 0, 255, 253, 0])
 
 
 class Sparse:
